@@ -1,0 +1,56 @@
+ghost use mathlib.Core.Path.{_≡_};
+ghost use mathlib.Core.Bool.{true, false};
+ghost use Prim.Native.Nat.{_+_, _<_};
+ghost use lib.ListN.{length};
+ghost use Rattle.std.specs.Options.{mapped, Cases as BySome};
+ghost use Rattle.std.specs.shelf.Lists.{between};
+ghost use Rattle.hextext.specs.Digits.{digit-value, front, Coded};
+
+// The value of each byte as a digit; NONE where it is no digit.
+const VALUES: [u8; 256] = [
+    255, 255, 255, 255, 255, 255, 255, 255, 255, 255, 255, 255, 255, 255, 255, 255,
+    255, 255, 255, 255, 255, 255, 255, 255, 255, 255, 255, 255, 255, 255, 255, 255,
+    255, 255, 255, 255, 255, 255, 255, 255, 255, 255, 255, 255, 255, 255, 255, 255,
+    0, 1, 2, 3, 4, 5, 6, 7, 8, 9, 255, 255, 255, 255, 255, 255,
+    255, 10, 11, 12, 13, 14, 15, 255, 255, 255, 255, 255, 255, 255, 255, 255,
+    255, 255, 255, 255, 255, 255, 255, 255, 255, 255, 255, 255, 255, 255, 255, 255,
+    255, 10, 11, 12, 13, 14, 15, 255, 255, 255, 255, 255, 255, 255, 255, 255,
+    255, 255, 255, 255, 255, 255, 255, 255, 255, 255, 255, 255, 255, 255, 255, 255,
+    255, 255, 255, 255, 255, 255, 255, 255, 255, 255, 255, 255, 255, 255, 255, 255,
+    255, 255, 255, 255, 255, 255, 255, 255, 255, 255, 255, 255, 255, 255, 255, 255,
+    255, 255, 255, 255, 255, 255, 255, 255, 255, 255, 255, 255, 255, 255, 255, 255,
+    255, 255, 255, 255, 255, 255, 255, 255, 255, 255, 255, 255, 255, 255, 255, 255,
+    255, 255, 255, 255, 255, 255, 255, 255, 255, 255, 255, 255, 255, 255, 255, 255,
+    255, 255, 255, 255, 255, 255, 255, 255, 255, 255, 255, 255, 255, 255, 255, 255,
+    255, 255, 255, 255, 255, 255, 255, 255, 255, 255, 255, 255, 255, 255, 255, 255,
+    255, 255, 255, 255, 255, 255, 255, 255, 255, 255, 255, 255, 255, 255, 255, 255,];
+
+const NONE: u8 = 255;
+
+fn looked_up(byte: u8) -> u8
+    ensures { λ r. ⌜ Coded byte r ⌝ }
+{
+    VALUES[byte as usize]
+}
+
+// The value of a hexadecimal digit, of either case.
+pub fn digit(byte: u8) -> Option<u8>
+    ensures value { λ r. ⌜ r ≡ digit-value byte ⌝ }
+    ensures bound { λ r. ⌜ BySome r (Unit {0}) (λ v. v < 16) ⌝ }
+{
+    let value = looked_up(byte);
+    if value == NONE { None } else { Some(value) }
+}
+
+// The byte that two digits at the front write, and the text after them.
+pub fn take_byte<'a>(text: &'a [u8]) -> Option<(u8, &'a [u8])>
+    ensures byte { λ r. ⌜ mapped (λ p. p .0) r ≡ front (now (text .entry)) ⌝ }
+    ensures rest { λ r. ⌜ BySome r (Unit {0}) (λ p. now (p .1) ≡ between 2 (length (now (text .entry))) (now (text .entry))) ⌝ }
+{
+    let [high, low, rest @ ..] = text else {
+        return None;
+    };
+    let high = digit(*high)?;
+    let low = digit(*low)?;
+    Some((high * 16 + low, rest))
+}
