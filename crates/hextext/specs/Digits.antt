@@ -1,8 +1,8 @@
 -- Hexadecimal digits, pairs of them, and the bytes that they write.
 use mathlib.Core.Path.{_≡_}
-use mathlib.Core.Bool.{Bool, true, cond}
+use mathlib.Core.Bool.{Bool, true, false, cond}
 use mathlib.Core.List.{List, [], _∷_}
-use Prim.Native.Nat.{ℕ, _+_, _-_, _*_, _<_}
+use Prim.Native.Nat.{ℕ, _+_, _-_, _*_, _<_, _≤_}
 use lib.Dec.{ltb}
 use lib.ListN.{length, getD, drop}
 use Rattle.std.specs.Options.{mapped, isSome, valueOr}
@@ -45,3 +45,9 @@ abbrev pub bytes-of : List ℕ → List ℕ
 bytes-of [] = []
 bytes-of (high ∷ []) = []
 bytes-of (high ∷ low ∷ rest) = valueOr (pair high low) 0 ∷ bytes-of rest
+
+-- the first n bytes are digits, and the next, if there is one, is none
+pub record Run (xs : List ℕ) (n : ℕ) : Type 0 where
+  pub within : n ≤ length xs
+  pub digits : (k : ℕ) → k < n → is-digit (getD xs k 0) ≡ true
+  pub stops : n < length xs → is-digit (getD xs n 0) ≡ false

@@ -4,7 +4,7 @@ ghost use Prim.Native.Nat.{_+_, _<_};
 ghost use lib.ListN.{length};
 ghost use Rattle.std.specs.Options.{mapped, Cases as BySome};
 ghost use Rattle.std.specs.shelf.Lists.{between};
-ghost use Rattle.hextext.specs.Digits.{digit-value, front, Coded};
+ghost use Rattle.hextext.specs.Digits.{digit-value, front, Coded, Run};
 
 // The value of each byte as a digit; NONE where it is no digit.
 const VALUES: [u8; 256] = [
@@ -53,4 +53,16 @@ pub fn take_byte<'a>(text: &'a [u8]) -> Option<(u8, &'a [u8])>
     let high = digit(*high)?;
     let low = digit(*low)?;
     Some((high * 16 + low, rest))
+}
+
+// How many digits stand at the front of a text.
+pub fn digit_run(text: &[u8]) -> usize
+    ensures { λ r. ⌜ Run (now (text .entry)) r ⌝ }
+{
+    'digits: for (i, byte) in text.iter().enumerate() {
+        if digit(*byte).is_none() {
+            return i;
+        }
+    }
+    text.len()
 }

@@ -1,0 +1,96 @@
+-- A text splits after its first line in one of three ways.
+use mathlib.Core.Path.{_≡_, refl, sym, ap, subst, _∙_}
+use mathlib.Core.Logic.{_⊎_, inl, inr, ⊎-elim}
+use mathlib.Core.Bool.{Bool, true, false, cond, not, _&&_}
+use mathlib.Core.List.{List, [], _∷_, _++_}
+use Prim.Native.Nat.{ℕ, suc, _+_, _-_, _≤_, _<_}
+use native.Mathlib.Numerals.{one-add}
+use native.Mathlib.Omega.{arith}
+use lib.Dec.{eqb, ltb}
+use lib.ListN.{length, getD, take, drop}
+use Rattle.std.specs.shelf.Lists.{All, leading, between}
+use Rattle.std.proofs.shelf.Lists.{append-assoc, append-nil, take-append-drop, drop-more, take-more, take-all, take-rest, nil-from-length, length-take-le, length-take, drop-all, getD-past}
+use Rattle.std.proofs.shelf.Elements.{all-take, all-weaker}
+use Rattle.std.proofs.shelf.Sums.{leading-le-length}
+use Rattle.std.proofs.shelf.Tests.{cond-both, and-parts, and-from, ltb-true, ltb-false, lt-ltb, eqb-true, eq-eqb, not-true, both-ways, cases-bool, cases-lt}
+use Rattle.hextext.specs.Lines.{before-feed, chomped, line-of, after-line, Split}
+
+module _ {X : Type 0} (p : X → Bool) where
+  passes-step : (x : X) (xs : List X) (t : Bool) → p x ≡ t → All (λ y. p y ≡ true) (take (leading p xs) xs) → All (λ y. p y ≡ true) (take (cond t (1 + leading p xs) 0) (x ∷ xs))
+  passes-step x xs true e ih = rw one-add (e, ih)
+  passes-step x xs false e ih = tt
+
+  -- what stands before the first element that fails the test passes it
+  pub passes : (xs : List X) → All (λ y. p y ≡ true) (take (leading p xs) xs)
+  passes [] = tt
+  passes (x ∷ xs) = passes-step x xs (p x) refl (passes xs)
+
+  fails-step : (x d : X) (xs : List X) (t : Bool) → p x ≡ t → (leading p xs < length xs → p (getD xs (leading p xs) d) ≡ false) → cond t (1 + leading p xs) 0 < suc (length xs) → p (getD (x ∷ xs) (cond t (1 + leading p xs) 0) d) ≡ false
+  fails-step x d xs true e ih h = rw one-add (ih (omega arith))
+  fails-step x d xs false e ih h = e
+
+  -- and that element fails it
+  pub fails : (xs : List X) (d : X) → leading p xs < length xs → p (getD xs (leading p xs) d) ≡ false
+  fails [] d h = absurd (omega arith)
+  fails (x ∷ xs) d h = fails-step x d xs (p x) refl (fails xs d) h
+
+
+
+
+not-feed : (b : ℕ) → not (eqb b 10) ≡ true → b ≡ 10 → ⊥
+not-feed b e is = both-ways (eqb b 10) (not-true _ e) (eq-eqb b 10 is)
+
+is-feed : (b : ℕ) → not (eqb b 10) ≡ false → b ≡ 10
+is-feed b e = ⊎-elim (λ t. eqb-true b 10 t) (λ f. absurd (both-ways (not (eqb b 10)) e (rw f))) (cases-bool (eqb b 10))
+
+module _ (xs : List ℕ) where
+  unfed : All (λ b. b ≡ 10 → ⊥) (take (before-feed xs) xs)
+  unfed = all-weaker _ _ (λ b e. not-feed b e) _ (passes (λ b. not (eqb b 10)) xs)
+
+  module _ (more : before-feed xs < length xs) where
+    rest-is : after-line xs ≡ drop (before-feed xs + 1) xs
+    rest-is = take-rest xs (before-feed xs + 1)
+
+    cut : xs ≡ take (before-feed xs) xs ++ (10 ∷ after-line xs)
+    cut =
+        let at = is-feed _ (fails (λ b. not (eqb b 10)) xs 0 more) in
+        sym (take-append-drop (before-feed xs) xs)
+        ∙ ap (λ l. take (before-feed xs) xs ++ l) (drop-more xs (before-feed xs) 0 more ∙ ap (λ b. b ∷ drop (before-feed xs + 1) xs) at ∙ ap (λ l. 10 ∷ l) (sym rest-is))
+
+    returned : (front : List ℕ) → take (before-feed xs) xs ≡ front → (ltb 0 (length front) && eqb (getD front (length front - 1) 0) 13) ≡ true → Split xs (take (length front - 1) front) (after-line xs)
+    returned front is e =
+        let p = and-parts _ _ e in
+        let some = ltb-true 0 (length front) (p .0) in
+        let step : front ≡ take (length front - 1) front ++ (13 ∷ []) =
+        sym (take-all (length front - 1 + 1) front (omega arith)) ∙ take-more front (length front - 1) 0 (omega arith) ∙ ap (λ b. take (length front - 1) front ++ (b ∷ [])) (eqb-true _ 13 (p .1)) in
+        record {
+          unbroken = all-take _ _ front (subst (All (λ b. b ≡ 10 → ⊥)) is unfed);
+          ended = inr (inl (cut ∙ ap (λ l. l ++ (10 ∷ after-line xs)) (is ∙ step) ∙ append-assoc (take (length front - 1) front) (13 ∷ []) (10 ∷ after-line xs)));
+        }
+
+    kept : (front : List ℕ) → take (before-feed xs) xs ≡ front → (ltb 0 (length front) && eqb (getD front (length front - 1) 0) 13) ≡ false → Split xs front (after-line xs)
+    kept front is e = record {
+      unbroken = subst (All (λ b. b ≡ 10 → ⊥)) is unfed;
+      ended = inl (
+        cut ∙ ap (λ l. l ++ (10 ∷ after-line xs)) is,
+        λ cr. ⊎-elim
+        (λ some. both-ways _ e (and-from _ _ (lt-ltb 0 (length front) some) (eq-eqb _ 13 cr)))
+        (λ none. let z = getD-past front (length front - 1) 0 (omega arith) in omega (arith, z, cr))
+        (cases-lt 0 (length front)),
+      );
+    }
+
+    at-feed : Split xs (chomped (take (before-feed xs) xs)) (after-line xs)
+    at-feed = cond-both _ _ _ (λ l. Split xs l (after-line xs)) (returned (take (before-feed xs) xs) refl) (kept (take (before-feed xs) xs) refl)
+
+  at-end : length xs ≤ before-feed xs → Split xs xs (after-line xs)
+  at-end all = record {
+    unbroken = subst (All (λ b. b ≡ 10 → ⊥)) (take-all (before-feed xs) xs all) unfed;
+    ended = inr (inr (refl, rest-is-nil));
+  }
+    where
+      rest-is-nil : after-line xs ≡ []
+      rest-is-nil = take-rest xs (before-feed xs + 1) ∙ drop-all (before-feed xs + 1) xs (omega arith)
+
+  pub splits : Split xs (line-of xs) (after-line xs)
+  splits = cond-both _ _ _ (λ l. Split xs l (after-line xs)) (λ e. at-feed (ltb-true _ _ e)) (λ e. at-end (ltb-false _ _ e))
