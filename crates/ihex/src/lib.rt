@@ -1,0 +1,7 @@
+// Reads Intel HEX text into an image.
+mod fault;
+mod record;
+
+pub use fault::HexFault;
+pub use fault::Reason;
+pub use record::Record;
