@@ -25,7 +25,7 @@ abbrev pub after-line : List ℕ → List ℕ
 after-line xs = between (before-feed xs + 1) (length xs) xs
 
 -- what is left of a text after its first n lines
-unfoldable pub from-line : List ℕ → ℕ → List ℕ
+abbrev pub from-line : List ℕ → ℕ → List ℕ
 from-line text zero = text
 from-line text (suc n) = after-line (from-line text n)
 

@@ -1,3 +1,4 @@
 pub mod Heads
 pub mod Runs
 pub mod Judged
+pub mod Currents
