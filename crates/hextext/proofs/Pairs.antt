@@ -99,3 +99,8 @@ pub length-bytes : (xs : List ℕ) → length (bytes-of xs) ≡ length xs / 2
 length-bytes [] = refl
 length-bytes (x ∷ []) = refl
 length-bytes (x ∷ y ∷ t) = omega (arith, length-bytes t)
+
+pub bytes-short : (xs : List ℕ) → length xs < 2 → bytes-of xs ≡ []
+bytes-short [] h = refl
+bytes-short (x ∷ []) h = refl
+bytes-short (x ∷ y ∷ t) h = absurd (omega arith)
