@@ -3,7 +3,7 @@ use mathlib.Core.Path.{_≡_, refl, sym, ap, subst, _∙_}
 use mathlib.Core.Logic.{_⊎_, inl, inr, ⊎-elim}
 use mathlib.Core.Bool.{Bool, true, false, cond, _&&_}
 use mathlib.Core.List.{List, [], _∷_}
-use Prim.Native.Nat.{ℕ, _+_, _-_, _*_, _%_, _/_, _≤_, _<_, suc}
+use Prim.Native.Nat.{ℕ, _+_, _-_, _*_, _%_, _/_, _≤_, _<_, zero, suc}
 use native.Mathlib.Omega.{arith}
 use lib.Dec.{eqb, ltb, leb}
 use lib.ListN.{length, getD, drop, take}
@@ -104,3 +104,18 @@ pub bytes-short : (xs : List ℕ) → length xs < 2 → bytes-of xs ≡ []
 bytes-short [] h = refl
 bytes-short (x ∷ []) h = refl
 bytes-short (x ∷ y ∷ t) h = absurd (omega arith)
+
+-- the bytes of a part of digits are that part of the bytes
+pub bytes-drop : (k : ℕ) (xs : List ℕ) → bytes-of (drop (2 * k) xs) ≡ drop k (bytes-of xs)
+bytes-drop zero xs = refl
+bytes-drop (suc k) [] = let e : 2 * suc k ≡ suc (suc (2 * k)) = omega arith in ap (λ n. bytes-of (drop n [])) e
+bytes-drop (suc k) (x ∷ []) = let e : 2 * suc k ≡ suc (suc (2 * k)) = omega arith in ap (λ n. bytes-of (drop n (x ∷ []))) e
+bytes-drop (suc k) (x ∷ y ∷ t) = let e : 2 * suc k ≡ suc (suc (2 * k)) = omega arith in ap (λ n. bytes-of (drop n (x ∷ y ∷ t))) e ∙ bytes-drop k t
+
+pub bytes-take : (k : ℕ) (xs : List ℕ) → bytes-of (take (2 * k) xs) ≡ take k (bytes-of xs)
+bytes-take zero xs = refl
+bytes-take (suc k) [] = let e : 2 * suc k ≡ suc (suc (2 * k)) = omega arith in ap (λ n. bytes-of (take n [])) e
+bytes-take (suc k) (x ∷ []) = let e : 2 * suc k ≡ suc (suc (2 * k)) = omega arith in ap (λ n. bytes-of (take n (x ∷ []))) e
+bytes-take (suc k) (x ∷ y ∷ t) =
+    let e : 2 * suc k ≡ suc (suc (2 * k)) = omega arith in
+    ap (λ n. bytes-of (take n (x ∷ y ∷ t))) e ∙ ap (λ l. valueOr (pair x y) 0 ∷ l) (bytes-take k t)

@@ -3,3 +3,5 @@ pub mod Runs
 pub mod Judged
 pub mod Currents
 pub mod Puts
+pub mod Laid
+pub mod Turns

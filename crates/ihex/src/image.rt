@@ -2,9 +2,19 @@ ghost use mathlib.Core.Path.{_≡_};
 ghost use Prim.Native.Nat.{_+_, _*_, _%_, _<_, _≤_};
 ghost use lib.ListN.{length, replicate};
 ghost use Rattle.hextext.specs.Digits.{Digits, bytes-of};
+ghost use Rattle.std.specs.Results.{Cases as ByOk};
 ghost use Rattle.ihex.specs.Places.{PutIn};
+ghost use Rattle.ihex.specs.Files.{Accepted, Refused, Filled};
+use crate::fault::HexFault;
 use crate::fault::Reason;
+use crate::reader::Reader;
+use crate::record::Record;
+use crate::survey::Survey;
 use hextext::take_byte;
+
+// The longest text that is read, and the largest image.
+pub const MAX_TEXT: usize = 1_048_576;
+pub const MAX_IMAGE: usize = 32_768;
 
 // The byte that an erased chip shows, and a place for which a text has none.
 const BLANK: u8 = 0xff;
@@ -48,4 +58,54 @@ fn put(image: &mut [u8], floor: usize, place: u16, digits: &[u8]) -> Result<usiz
     }
     write_pairs(digits, &mut image[from..to]);
     Ok(to)
+}
+
+// Reads the records of a text into an image that is FFh throughout.
+fn place_all(text: &[u8], image: &mut [u8]) -> Result<Survey, HexFault>
+    requires { ⌜ length (now text) ≤ 1048576 ⌝ ∗ ⌜ length (now image) ≤ 32768 ⌝ ∗ ⌜ now image ≡ replicate (length (now image)) 255 ⌝ }
+    ensures { λ r. ⌜ ByOk r (λ s. Accepted (now (text .entry)) (length (now (image .entry))) s (now (image .exit))) (λ e. Refused (now (text .entry)) (length (now (image .entry))) e) ⌝ }
+{
+    let mut reader = Reader::new(text);
+    let mut survey = Survey::empty();
+    let mut floor: usize = 0;
+    'records: loop {
+        let line = reader.line + 1;
+        let position = reader.position;
+        match reader.next()? {
+            Some(Record::Data { place, digits }) => match put(image, floor, place, digits) {
+                Ok(end) => {
+                    survey = survey.with(place, digits.len() / 2);
+                    floor = end;
+                }
+                Err(reason) => return Err(HexFault { reason, line, position }),
+            },
+            Some(Record::End) => {
+                if reader.position < text.len() {
+                    let line = reader.line + 1;
+                    let position = reader.position;
+                    return Err(HexFault { reason: Reason::AfterEnd, line, position });
+                }
+                return Ok(survey);
+            }
+            None => return Err(HexFault { reason: Reason::MissingEnd, line, position }),
+        }
+    }
+}
+
+// Reads a text into an image, which then shows at each place the byte that the text has for it, and FFh where it has
+// none. A refused text leaves the whole image FFh; one that is too long, or an image that is, leaves it untouched.
+pub fn fill(text: &[u8], image: &mut [u8]) -> Result<Survey, HexFault>
+    ensures { λ r. ⌜ Filled (now (text .entry)) (now (image .entry)) r (now (image .exit)) ⌝ }
+{
+    if text.len() > MAX_TEXT || image.len() > MAX_IMAGE {
+        return Err(HexFault { reason: Reason::TooLong, line: 0, position: 0 });
+    }
+    blank(image);
+    match place_all(text, image) {
+        Ok(survey) => Ok(survey),
+        Err(fault) => {
+            blank(image);
+            Err(fault)
+        }
+    }
 }

@@ -7,6 +7,9 @@ mod survey;
 
 pub use fault::HexFault;
 pub use fault::Reason;
+pub use image::MAX_IMAGE;
+pub use image::MAX_TEXT;
+pub use image::fill;
 pub use reader::Reader;
 pub use record::Record;
 pub use survey::Span;
