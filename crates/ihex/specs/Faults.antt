@@ -7,17 +7,17 @@ use Rattle.ihex.specs.declared.fault.Reason.the-variants.{MissingColon, NotADi
 use Rattle.ihex.specs.declared.fault.HexFault.{HexFault}
 use Rattle.ihex.specs.Rules.{fault-at, offset}
 
-abbrev pub number : Reason → ℕ
-number MissingColon = 30
-number NotADigit = 31
-number WrongLength = 32
-number WrongSum = 33
-number UnknownType = 34
-number OutOfRange = 35
-number OutOfOrder = 36
-number MissingEnd = 37
-number AfterEnd = 38
-number TooLong = 39
+abbrev pub refusal-number : Reason → ℕ
+refusal-number MissingColon = 30
+refusal-number NotADigit = 31
+refusal-number WrongLength = 32
+refusal-number WrongSum = 33
+refusal-number UnknownType = 34
+refusal-number OutOfRange = 35
+refusal-number OutOfOrder = 36
+refusal-number MissingEnd = 37
+refusal-number AfterEnd = 38
+refusal-number TooLong = 39
 
 -- The refusal of a text for a reason that shows at its line n, counted from 0. It names that line, counted from 1, and
 -- where the line starts, or the byte in it that is no digit; past the end line, the line after that; and of what is too

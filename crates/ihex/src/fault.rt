@@ -1,3 +1,6 @@
+ghost use mathlib.Core.Path.{_≡_};
+ghost use Rattle.ihex.specs.Faults.{refusal-number};
+
 // Why a text is refused.
 #[derive(Clone, Copy, Debug, PartialEq)]
 pub enum Reason {
@@ -11,6 +14,26 @@ pub enum Reason {
     MissingEnd,
     AfterEnd,
     TooLong,
+}
+
+impl Reason {
+    // The refusal's number.
+    pub fn number(self) -> u8
+        ensures { λ r. ⌜ r ≡ refusal-number self ⌝ }
+    {
+        match self {
+            Reason::MissingColon => 30,
+            Reason::NotADigit => 31,
+            Reason::WrongLength => 32,
+            Reason::WrongSum => 33,
+            Reason::UnknownType => 34,
+            Reason::OutOfRange => 35,
+            Reason::OutOfOrder => 36,
+            Reason::MissingEnd => 37,
+            Reason::AfterEnd => 38,
+            Reason::TooLong => 39,
+        }
+    }
 }
 
 // A refusal: why, in which line, counted from 1, and at which byte of the text, counted from 0.
