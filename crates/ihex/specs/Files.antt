@@ -15,7 +15,7 @@ use Rattle.ihex.specs.declared.fault.HexFault.{HexFault}
 use Rattle.ihex.specs.declared.survey.Span.{Span}
 use Rattle.ihex.specs.declared.survey.Survey.{Survey}
 use Rattle.ihex.specs.Rules.{count, place, payload, DataLine, EndLine, Broken, fault-at}
-use Rattle.ihex.specs.Faults.{fault}
+use Rattle.ihex.specs.Faults.{fault, refusal-number}
 use Rattle.ihex.specs.Reads.{There}
 
 -- where the data of the line before line n ended
@@ -104,3 +104,12 @@ pub record Filled (text image : List ℕ) (r : Result Survey HexFault) (after : 
   pub long-text : 1048576 < length text → (r ≡ Err (fault-at TooLong 0 0)) × (after ≡ image)
   pub long-image : 32768 < length image → (r ≡ Err (fault-at TooLong 0 0)) × (after ≡ image)
   pub read : length text ≤ 1048576 → length image ≤ 32768 → Read text image r after
+
+-- 0 for an accepted text, and the number of a refusal
+abbrev pub answer-number : Result Survey HexFault → ℕ
+answer-number (Ok s) = 0
+answer-number (Err e) = refusal-number (e .reason)
+
+-- the same, where only the number is told
+pub record FilledByNumber (text image : List ℕ) (number : ℕ) (after : List ℕ) : Type 0 where
+  pub answer : (r : Result Survey HexFault) × Filled text image r after × (number ≡ answer-number r)

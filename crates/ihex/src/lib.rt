@@ -1,10 +1,12 @@
 // Reads Intel HEX text into an image.
+mod export;
 mod fault;
 mod image;
 mod reader;
 mod record;
 mod survey;
 
+pub use export::ihex_fill;
 pub use fault::HexFault;
 pub use fault::Reason;
 pub use image::MAX_IMAGE;
