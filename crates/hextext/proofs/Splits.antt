@@ -34,9 +34,6 @@ module _ {X : Type 0} (p : X → Bool) where
   fails [] d h = absurd (omega arith)
   fails (x ∷ xs) d h = fails-step x d xs (p x) refl (fails xs d) h
 
-
-
-
 not-feed : (b : ℕ) → not (eqb b 10) ≡ true → b ≡ 10 → ⊥
 not-feed b e is = both-ways (eqb b 10) (not-true _ e) (eq-eqb b 10 is)
 
@@ -74,9 +71,9 @@ module _ (xs : List ℕ) where
       ended = inl (
         cut ∙ ap (λ l. l ++ (10 ∷ after-line xs)) is,
         λ cr. ⊎-elim
-        (λ some. both-ways _ e (and-from _ _ (lt-ltb 0 (length front) some) (eq-eqb _ 13 cr)))
-        (λ none. let z = getD-past front (length front - 1) 0 (omega arith) in omega (arith, z, cr))
-        (cases-lt 0 (length front)),
+            (λ some. both-ways _ e (and-from _ _ (lt-ltb 0 (length front) some) (eq-eqb _ 13 cr)))
+            (λ none. let z = getD-past front (length front - 1) 0 (omega arith) in omega (arith, z, cr))
+            (cases-lt 0 (length front)),
       );
     }
 

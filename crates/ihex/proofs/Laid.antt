@@ -131,13 +131,13 @@ module _ (text : List ℕ) (size n f q end : ℕ) (s t : Survey) (image after d 
   shown : Shows text (suc n) after
   shown = record {
     given = λ k a h cv.
-      ⊎-elim (λ old. p .3 .elsewhere a (inl (old .1)) ∙ l .shows .given k a (old .0) cv)
-      (λ new. here a (new .1) (new .2) ∙ ap (λ i. getD (payload (line text i)) (a - place (line text i)) 0) (sym (new .0)))
-      (old-or-new k a h cv);
+        ⊎-elim (λ old. p .3 .elsewhere a (inl (old .1)) ∙ l .shows .given k a (old .0) cv)
+        (λ new. here a (new .1) (new .2) ∙ ap (λ i. getD (payload (line text i)) (a - place (line text i)) 0) (sym (new .0)))
+        (old-or-new k a h cv);
     alone = alone text size (suc n) placed;
     blank = λ a h none.
-      p .3 .elsewhere a (outside a (none n (omega arith)))
-      ∙ l .shows .blank a (omega (arith, same)) (λ k hk cv. none k (omega arith) cv);
+        p .3 .elsewhere a (outside a (none n (omega arith)))
+        ∙ l .shows .blank a (omega (arith, same)) (λ k hk cv. none k (omega arith) cv);
   }
     where
       outside : (a : ℕ) → (Covers text n a → ⊥) → (a < q) ⊎ (q + length d / 2 ≤ a)
@@ -158,15 +158,13 @@ module _ (text : List ℕ) (size n f q end : ℕ) (s t : Survey) (image after d 
       (more _ (sp .0), more _ (sp .1), λ a g. ⊎-elim (λ old. sp .2 a (g .0, old .0, g .2)) (λ new. absurd (omega (arith, new .1, new .2))) (old-or-new (g .0) a (g .1) (g .2)))
 
   spans-more : 0 < count (line text n) → (o : Option Span) → Spans text n o → Spans text (suc n) (Some (record { lowest = lowest-of o q; highest = q + length d / 2 - 1 }))
-  spans-more some None sp =
-      (
-        newest q (omega arith) (omega arith),
-        newest (q + length d / 2 - 1) (omega (arith, c-is)) (omega (arith, c-is)),
-        λ a g. ⊎-elim (λ old. absurd (sp a (g .0, old .0, g .2))) (λ new. (new .1, omega (arith, new .2, c-is))) (old-or-new (g .0) a (g .1) (g .2)),
-      )
+  spans-more some None sp = (
+    newest q (omega arith) (omega arith),
+    newest (q + length d / 2 - 1) (omega (arith, c-is)) (omega (arith, c-is)),
+    λ a g. ⊎-elim (λ old. absurd (sp a (g .0, old .0, g .2))) (λ new. (new .1, omega (arith, new .2, c-is))) (old-or-new (g .0) a (g .1) (g .2)),
+  )
   spans-more some (Some w) sp =
-      let least = low (sp .0 .0) (w .lowest) (sp .0 .1) (sp .0 .2) in
-      (
+      let least = low (sp .0 .0) (w .lowest) (sp .0 .1) (sp .0 .2) in (
         more _ (sp .0),
         newest (q + length d / 2 - 1) (omega (arith, c-is)) (omega (arith, c-is)),
         λ a g. ⊎-elim (λ old. (sp .2 a (g .0, old .0, g .2) .0, omega (arith, old .1, c-is))) (λ new. (omega (arith, new .1), omega (arith, new .2, c-is))) (old-or-new (g .0) a (g .1) (g .2)),

@@ -22,7 +22,9 @@ put-mid image from digits part k size fits is =
   where
     inner : (j : ℕ) → j < length part → getD (putMid from k image part) (from + j) 0 ≡ getD part j 0
     inner j h = search (needs, places)
+
     below : (a : ℕ) → a < from → length part ≡ k → getD (putMid from k image part) a 0 ≡ getD image a 0
     below a h n = search (needs, places)
+
     above : (a : ℕ) → from + k ≤ a → length part ≡ k → getD (putMid from k image part) a 0 ≡ getD image a 0
     above a h n = search (needs, places)

@@ -14,6 +14,7 @@ use hextext::take_byte;
 
 // The longest text that is read, and the largest image.
 pub const MAX_TEXT: usize = 1_048_576;
+
 pub const MAX_IMAGE: usize = 32_768;
 
 // The byte that an erased chip shows, and a place for which a text has none.
@@ -77,17 +78,29 @@ fn place_all(text: &[u8], image: &mut [u8]) -> Result<Survey, HexFault>
                     survey = survey.with(place, digits.len() / 2);
                     floor = end;
                 }
-                Err(reason) => return Err(HexFault { reason, line, position }),
+                Err(reason) => return Err(HexFault {
+                    reason,
+                    line,
+                    position,
+                }),
             },
             Some(Record::End) => {
                 if reader.position < text.len() {
                     let line = reader.line + 1;
                     let position = reader.position;
-                    return Err(HexFault { reason: Reason::AfterEnd, line, position });
+                    return Err(HexFault {
+                        reason: Reason::AfterEnd,
+                        line,
+                        position,
+                    });
                 }
                 return Ok(survey);
             }
-            None => return Err(HexFault { reason: Reason::MissingEnd, line, position }),
+            None => return Err(HexFault {
+                reason: Reason::MissingEnd,
+                line,
+                position,
+            }),
         }
     }
 }
@@ -98,7 +111,11 @@ pub fn fill(text: &[u8], image: &mut [u8]) -> Result<Survey, HexFault>
     ensures { λ r. ⌜ Filled (now (text .entry)) (now (image .entry)) r (now (image .exit)) ⌝ }
 {
     if text.len() > MAX_TEXT || image.len() > MAX_IMAGE {
-        return Err(HexFault { reason: Reason::TooLong, line: 0, position: 0 });
+        return Err(HexFault {
+            reason: Reason::TooLong,
+            line: 0,
+            position: 0,
+        });
     }
     blank(image);
     match place_all(text, image) {

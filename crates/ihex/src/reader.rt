@@ -26,7 +26,11 @@ impl<'a> Reader<'a> {
         ensures line { λ r. ⌜ r .line ≡ 0 ⌝ }
         ensures position { λ r. ⌜ r .position ≡ 0 ⌝ }
     {
-        Reader { text, line: 0, position: 0 }
+        Reader {
+            text,
+            line: 0,
+            position: 0,
+        }
     }
 
     // The record of the next line, and the position after it.

@@ -60,18 +60,34 @@ fn unpaired(digits: &[u8], line: usize, position: usize) -> HexFault
     let run = digit_run(digits);
     if run < digits.len() {
         let position = position + 1 + run;
-        HexFault { reason: Reason::NotADigit, line, position }
+        HexFault {
+            reason: Reason::NotADigit,
+            line,
+            position,
+        }
     } else {
-        HexFault { reason: Reason::WrongLength, line, position }
+        HexFault {
+            reason: Reason::WrongLength,
+            line,
+            position,
+        }
     }
 }
 
 // Reads a line, given without its end, that is line `number` and starts at `position`.
-pub(crate) fn read_record<'a>(line: &'a [u8], number: usize, position: usize) -> Result<Record<'a>, HexFault>
+pub(crate) fn read_record<'a>(
+    line: &'a [u8],
+    number: usize,
+    position: usize,
+) -> Result<Record<'a>, HexFault>
     requires { ⌜ position + length (now line) < 2 ^ 64 ⌝ }
     ensures { λ r. ⌜ LineRead (now (line .entry)) number position r ⌝ }
 {
-    let fault = HexFault { reason: Reason::MissingColon, line: number, position };
+    let fault = HexFault {
+        reason: Reason::MissingColon,
+        line: number,
+        position,
+    };
     let [b':', digits @ ..] = line else {
         return Err(fault);
     };
@@ -79,18 +95,33 @@ pub(crate) fn read_record<'a>(line: &'a [u8], number: usize, position: usize) ->
         return Err(unpaired(digits, number, position));
     };
     let Some((header, body)) = take_header(digits) else {
-        return Err(HexFault { reason: Reason::WrongLength, ..fault });
+        return Err(HexFault {
+            reason: Reason::WrongLength,
+            ..fault
+        });
     };
     let size = 2 * header.count as usize;
     if body.len() != size + 2 {
-        return Err(HexFault { reason: Reason::WrongLength, ..fault });
+        return Err(HexFault {
+            reason: Reason::WrongLength,
+            ..fault
+        });
     }
     if sum != 0 {
-        return Err(HexFault { reason: Reason::WrongSum, ..fault });
+        return Err(HexFault {
+            reason: Reason::WrongSum,
+            ..fault
+        });
     }
     match header.kind {
-        0 => Ok(Record::Data { place: header.place, digits: &body[0..size] }),
+        0 => Ok(Record::Data {
+            place: header.place,
+            digits: &body[0..size],
+        }),
         1 if header.count == 0 => Ok(Record::End),
-        _ => Err(HexFault { reason: Reason::UnknownType, ..fault }),
+        _ => Err(HexFault {
+            reason: Reason::UnknownType,
+            ..fault
+        }),
     }
 }

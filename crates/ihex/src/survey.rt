@@ -22,7 +22,11 @@ impl Survey {
     pub(crate) fn empty() -> Survey
         ensures { λ r. ⌜ r ≡ none-noted ⌝ }
     {
-        Survey { records: 0, bytes: 0, span: None }
+        Survey {
+            records: 0,
+            bytes: 0,
+            span: None,
+        }
     }
 
     // With a record of `count` bytes more, which lie at `place` and above.
@@ -39,6 +43,10 @@ impl Survey {
             None => place,
         };
         let highest = (place as usize + count - 1) as u16;
-        Survey { records, bytes: self.bytes + count, span: Some(Span { lowest, highest }) }
+        Survey {
+            records,
+            bytes: self.bytes + count,
+            span: Some(Span { lowest, highest }),
+        }
     }
 }

@@ -29,7 +29,11 @@ fn run(rt: &LibcRuntime) -> Result<(), AnyError> {
     let accepted = answer.is_ok();
     let page = report(rt.alloc(), answer)?;
     print!(rt, "{page}")?;
-    if accepted { Ok(()) } else { Err("the profile is refused".into()) }
+    if accepted {
+        Ok(())
+    } else {
+        Err("the profile is refused".into())
+    }
 }
 
 fn main(rt: LibcRuntime) -> Result<(), AnyError> {

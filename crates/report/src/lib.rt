@@ -18,9 +18,11 @@ fn sentence(reason: Reason) -> &'static str
     match reason {
         Reason::MissingColon => "the line does not begin with a colon",
         Reason::NotADigit => "this byte is not a hexadecimal digit",
-        Reason::WrongLength => "the line has fewer than 10 digits, or not 10 and 2 for each byte that it counts",
+        Reason::WrongLength =>
+            "the line has fewer than 10 digits, or not 10 and 2 for each byte that it counts",
         Reason::WrongSum => "the bytes of the line do not add up to 0 modulo 256",
-        Reason::UnknownType => "the type is neither 00 (data) nor 01 (end), or an end line counts bytes",
+        Reason::UnknownType =>
+            "the type is neither 00 (data) nor 01 (end), or an end line counts bytes",
         Reason::OutOfRange => "the data reaches past the end of the image",
         Reason::OutOfOrder => "the data begins below the end of the data line before it",
         Reason::MissingEnd => "the text stops without an end line",
@@ -48,7 +50,11 @@ fn digit(value: u16) -> char
     ensures { λ r. ⌜ r ≡ hex-digit value ⌝ }
 {
     let value = value as u8;
-    if value < 10 { (b'0' + value) as char } else { (b'A' - 10 + value) as char }
+    if value < 10 {
+        (b'0' + value) as char
+    } else {
+        (b'A' - 10 + value) as char
+    }
 }
 
 // A place in four digits.

@@ -59,8 +59,7 @@ with-survey-requires c κs =
     let at = need.at·with-survey-requires c .In-Some-Data in
     let l = c .records .inv .1 in
     let low = total-below _ _ (c .records .reader .line) (l .before) in
-    let put = c .in-Ok .ensures tt in
-    (
+    let put = c .in-Ok .ensures tt in (
       omega (arith, l .surveyed .records, c .records .reader .counted, stood at, c .pre .0),
       (omega (arith, l .surveyed .bytes, low, l .floor-is, put .0, put .1, put .2, l .long, c .pre .1 .0), omega (arith, put .0, put .1, l .long, c .pre .1 .0)),
     )
@@ -75,8 +74,7 @@ records-less c =
 
 pub records-again : need.records-again
 records-again c =
-    let at = need.at·records-again c .In-Some-Data in
-    (
+    let at = need.at·records-again c .In-Some-Data in (
       same-text at,
       rw (moved at) (laid-more (c .args .text .now) (length (c .args .image .now)) (c .records .reader .line) (c .records .floor) (c .in-Some-Data .place) (c .in-Ok .end) (c .records .survey) (c .with-survey .result) (c .records .image) (c .put .last .image) (c .in-Some-Data .digits .now) (c .records .inv .1) (shown at) (c .in-Ok .ensures tt) (omega arith) (c .with-survey .ensures)),
     )

@@ -80,8 +80,7 @@ returns-in-rest-kind c =
     let body = c .in-Some-take-header .body .now in
     let head = c .in-Some-take-header .ensures tt in
     let k = kind-is line _ is header body head in
-    let n = count-is line _ is header body head in
-    (
+    let n = count-is line _ is header body head in (
       (
         well (need.at·returns-in-rest-kind c .Else-sum-ne0) (colon (need.at·returns-in-rest-kind c .In-58)),
         λ d. elim (c .in-rest-kind .came) [ in-rest-kind·by·in-1·else-header-eq0 w ↦ omega (arith, d .typed) | in-rest-kind·by·in-rest· w ↦ omega (arith, d .typed) ],

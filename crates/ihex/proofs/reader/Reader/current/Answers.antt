@@ -52,8 +52,7 @@ pub returns : need.returns
 returns c =
     let self = c .args .self .now in
     let before = need.at·returns c .After-split-line in
-    let x = c .in-Continue-record .record in
-    (
+    let x = c .in-Continue-record .record in (
       read-ok (self .text .now) (self .line) (self .position) (self .at) x (there before) (subst (λ l. LineRead l (self .line + 1) (self .position) (Ok x)) (line-is before) (c .in-Continue-record .ensures tt)),
       after-is (self .text .now) (self .line) (self .position) (self .at) _ (rest-is before),
       after-more (self .text .now) (self .line) (self .position) (self .at) _ (there before) (rest-is before) .0,
