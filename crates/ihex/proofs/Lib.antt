@@ -5,3 +5,4 @@ pub mod Currents
 pub mod Puts
 pub mod Laid
 pub mod Turns
+pub mod Sole

@@ -113,3 +113,7 @@ answer-number (Err e) = refusal-number (e .reason)
 -- the same, where only the number is told
 pub record FilledByNumber (text image : List ℕ) (number : ℕ) (after : List ℕ) : Type 0 where
   pub answer : (r : Result Survey HexFault) × Filled text image r after × (number ≡ answer-number r)
+
+-- no two answers, and no two images, are right for one text and one image
+abbrev pub Sole : List ℕ → List ℕ → Type 0
+Sole text image = (r t : Result Survey HexFault) (a b : List ℕ) → Filled text image r a → Filled text image t b → (r ≡ t) × (a ≡ b)

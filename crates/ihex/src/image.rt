@@ -1,10 +1,12 @@
 ghost use mathlib.Core.Path.{_≡_};
+ghost use mathlib.Core.Logic.{_⊎_};
+ghost use Rattle.std.specs.Orderings.{Decides};
 ghost use Prim.Native.Nat.{_+_, _*_, _%_, _<_, _≤_};
 ghost use lib.ListN.{length, replicate};
 ghost use Rattle.hextext.specs.Digits.{Digits, bytes-of};
 ghost use Rattle.std.specs.Results.{Cases as ByOk};
 ghost use Rattle.ihex.specs.Places.{PutIn};
-ghost use Rattle.ihex.specs.Files.{Accepted, Refused, Filled};
+ghost use Rattle.ihex.specs.Files.{Accepted, Refused, Filled, Sole};
 use crate::fault::HexFault;
 use crate::fault::Reason;
 use crate::reader::Reader;
@@ -105,12 +107,21 @@ fn place_all(text: &[u8], image: &mut [u8]) -> Result<Survey, HexFault>
     }
 }
 
+// Whether a text or an image is longer than the limits allow.
+fn too_long(text: &[u8], image: &[u8]) -> bool
+    ensures test { λ r. ⌜ Decides r ((1048576 < length (now (text .entry))) ⊎ (32768 < length (now (image .entry)))) ⌝ }
+    ensures sole { λ _. ⌜ Sole (now (text .entry)) (now (image .entry)) ⌝ }
+{
+    text.len() > MAX_TEXT || image.len() > MAX_IMAGE
+}
+
 // Reads a text into an image, which then shows at each place the byte that the text has for it, and FFh where it has
 // none. A refused text leaves the whole image FFh; one that is too long, or an image that is, leaves it untouched.
 pub fn fill(text: &[u8], image: &mut [u8]) -> Result<Survey, HexFault>
-    ensures { λ r. ⌜ Filled (now (text .entry)) (now (image .entry)) r (now (image .exit)) ⌝ }
+    ensures read { λ r. ⌜ Filled (now (text .entry)) (now (image .entry)) r (now (image .exit)) ⌝ }
+    ensures sole { λ _. ⌜ Sole (now (text .entry)) (now (image .entry)) ⌝ }
 {
-    if text.len() > MAX_TEXT || image.len() > MAX_IMAGE {
+    if too_long(text, image) {
         return Err(HexFault {
             reason: Reason::TooLong,
             line: 0,
