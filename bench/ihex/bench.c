@@ -98,16 +98,58 @@ static void compare(const char *name, size_t length)
     printf("%s (%zu bytes): proved %.0f MB/s, plain C %.0f MB/s (ratio %.2f), C with a table %.0f MB/s (ratio %.2f)\n", name, length, proved, plain, proved / plain, table, proved / table);
 }
 
+static int keep(const char *folder, const char *name, size_t length)
+{
+    char path[4096];
+    snprintf(path, sizeof path, "%s/%s", folder, name);
+    FILE *f = fopen(path, "wb");
+    return f && fwrite(text, 1, length, f) == length && fclose(f) == 0;
+}
+
+/* random texts, most of them damaged, through all three readers: the same number, the same image */
+static void agree(unsigned rounds)
+{
+    static unsigned char third[SIZE];
+    struct place where;
+    unsigned seen[40] = {0};
+    for (unsigned round = 0; round < rounds; round++) {
+        seed = round;
+        size_t length = 0, size = any_byte() % 64;
+        unsigned place = 0;
+        for (unsigned n = any_byte() % 6; n > 0; n--) {
+            place += any_byte() % 8;
+            unsigned count = any_byte() % 5;
+            length = put_line(length, count, place, any_byte() % 40 ? 0 : any_byte());
+            place += any_byte() % 20 ? count : 0;
+        }
+        if (any_byte() % 20)
+            length = put_line(length, 0, 0, 1);
+        for (unsigned n = any_byte() % 3; n > 0 && length > 0; n--)
+            text[any_byte() * 3u % length] = ":0123456789ABCDEFabcdef\r\n\nxG"[any_byte() % 29];
+        int a = plain_fill(text, length, image, size, &where), b = table_fill(text, length, other, size, &where), c = ihex_fill(text, length, third, size);
+        if (a != b || a != c || memcmp(image, other, size) != 0 || memcmp(image, third, size) != 0) {
+            fprintf(stderr, "round %u: plain %d, table %d, proved %d, or their images differ\n", round, a, b, c);
+            exit(1);
+        }
+        seen[c]++;
+    }
+    printf("%u random texts, same numbers and images:", rounds);
+    for (int i = 0; i < 40; i++)
+        if (seen[i])
+            printf(" %u of %d,", seen[i], i);
+    printf(" 0 being accepted\n");
+}
+
 int main(int argc, char **argv)
 {
+    const char *folder = argc > 1 ? argv[1] : ".";
+    agree(1000000);
     size_t length = make(16, 0);
     compare("16 bytes to a line, image full", length);
-    if (argc > 1) {
-        FILE *f = fopen(argv[1], "wb");
-        if (!f || fwrite(text, 1, length, f) != length || fclose(f) != 0)
-            return 1;
-    }
+    if (!keep(folder, "full.hex", length))
+        return 1;
     compare("255 bytes to a line, image full", make(255, 0));
-    compare("1 byte to a line, then none, 1 MiB", make(1, LIMIT));
-    return 0;
+    length = make(1, LIMIT);
+    compare("1 byte to a line, then none, 1 MiB", length);
+    return keep(folder, "long.hex", length) ? 0 : 1;
 }

@@ -2,12 +2,15 @@ ghost use mathlib.Core.Path.{_≡_};
 ghost use Prim.Native.Nat.{_≤_};
 ghost use lib.ListN.{length};
 ghost use Rattle.hextext.specs.Lines.{before-feed, chomped, line-of, after-line, Split};
+use std::simd::prelude::*;
 
-// How many bytes stand before the first LF.
-fn line_feed(text: &[u8]) -> usize
+// How many bytes of a text are looked at together.
+const LANES: usize = 16;
+
+// How many bytes stand before the first LF, or the text's length; one by one.
+fn scanned(text: &[u8]) -> usize
     ensures within { λ r. ⌜ r ≤ length (now (text .entry)) ⌝ }
     ensures value { λ r. ⌜ r ≡ before-feed (now (text .entry)) ⌝ }
-    ensures split { λ _. ⌜ Split (now (text .entry)) (line-of (now (text .entry))) (after-line (now (text .entry))) ⌝ }
 {
     'scan: for (i, byte) in text.iter().enumerate() {
         if *byte == b'\n' {
@@ -15,6 +18,24 @@ fn line_feed(text: &[u8]) -> usize
         }
     }
     text.len()
+}
+
+// The same, sixteen at a time.
+fn line_feed(text: &[u8]) -> usize
+    ensures within { λ r. ⌜ r ≤ length (now (text .entry)) ⌝ }
+    ensures value { λ r. ⌜ r ≡ before-feed (now (text .entry)) ⌝ }
+    ensures split { λ _. ⌜ Split (now (text .entry)) (line-of (now (text .entry))) (after-line (now (text .entry))) ⌝ }
+{
+    let mut at = 0;
+    'chunks: while text.len() - at >= LANES {
+        let lanes = u8x16::from_slice(&text[at..]);
+        let feeds = lanes.simd_eq(u8x16::splat(b'\n')).to_bitmask();
+        if feeds != 0 {
+            return at + feeds.trailing_zeros() as usize;
+        }
+        at += LANES;
+    }
+    at + scanned(&text[at..])
 }
 
 // The line without a CR at its end.

@@ -197,8 +197,7 @@ module _ (text : List ℕ) (size : ℕ) where
 
   pub same-acceptance : (s t : Survey) (a b : List ℕ) → Accepted text size s a → Accepted text size t b → (s ≡ t) × (a ≡ b)
   same-acceptance s t a b p q =
-      let n = same-line (p .lines) (q .lines) (p .before) (closed _ (p .closes)) (q .before) (closed _ (q .closes)) in
-      (
+      let n = same-line (p .lines) (q .lines) (p .before) (closed _ (p .closes)) (q .before) (closed _ (q .closes)) in (
         same-survey (q .lines) s t (subst (λ i. Surveyed text i s) n (p .surveyed)) (q .surveyed),
         same-image (q .lines) a b (p .long ∙ sym (q .long)) (subst (λ i. Shows text i a) n (p .shows)) (q .shows),
       )

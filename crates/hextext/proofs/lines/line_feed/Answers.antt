@@ -1,24 +1,50 @@
-use mathlib.Core.Bool.{not}
+use mathlib.Core.Path.{_≡_, sym, ap, _∙_}
+use mathlib.Core.List.{map}
+use Prim.Native.Nat.{ℕ, _+_, _-_, _≤_}
 use native.Mathlib.Omega.{arith}
 use lib.Dec.{eqb}
-use Rattle.std.proofs.shelf.Tests.{not-from-true, not-from-false, eq-eqb, ne-eqb}
-use Rattle.std.proofs.shelf.Sums.{leading-drop-yes, leading-drop-no, leading-drop-all}
+use lib.Lanes.{maskL}
+use lib.ListN.{length, take, drop, length-drop}
+use mir.Syntax.{w8}
+use Rattle.std.proofs.shelf.Lanes.{bitmask-splat}
+use Rattle.std.proofs.shelf.Lists.{take-rest, length-take-le, drop-drop}
+use Rattle.hextext.specs.Lines.{before-feed}
+use Rattle.hextext.proofs.Scans.{none-found, found}
 use Rattle.hextext.proofs.Splits.{splits}
 use Rattle.hextext.proofs.lines.line_feed.Needs as need
 
-pub returns-then-byte-eq10 : need.returns-then-byte-eq10
-returns-then-byte-eq10 c = record {
-  within = omega arith;
-  value = omega (arith, c .scan .inv, leading-drop-no (λ b. not (eqb b 10)) (c .args .text .now) (c .scan .i) 0 (omega arith) (not-from-true _ (eq-eqb _ 10 (c .if-byte-eq10 .taken))));
-  split = splits (c .args .text .now);
-}
+pub returns-then-feeds-ne0 : need.returns-then-feeds-ne0
+returns-then-feeds-ne0 c =
+    let text = c .args .text .now in
+    let left = drop (c .chunks .at) text in
+    let size = length-drop (c .chunks .at) text in
+    let long : 16 ≤ length left = omega arith in
+    let mask = bitmask-splat w8 eqb (take 16 left) 16 10 (length-take-le 16 left long) (omega arith) in
+    let f = found (λ b. eqb b 10) 16 left (omega arith) long _ mask (omega arith) in
+    record {
+      within = omega (arith, f .1);
+      value = omega (arith, f .0, c .chunks .inv .1);
+      split = splits text;
+    }
 
-pub scan-again : need.scan-again
-scan-again c = omega (arith, c .scan .inv, leading-drop-yes (λ b. not (eqb b 10)) (c .args .text .now) (c .scan .i) 0 (omega arith) (not-from-false _ (ne-eqb _ 10 (c .if-byte-eq10 .left))))
+pub chunks-again : need.chunks-again
+chunks-again c =
+    let text = c .args .text .now in
+    let left = drop (c .chunks .at) text in
+    let size = length-drop (c .chunks .at) text in
+    let long : 16 ≤ length left = omega arith in
+    let mask = bitmask-splat w8 eqb (take 16 left) 16 10 (length-take-le 16 left long) (omega arith) in
+    let f = none-found (λ b. eqb b 10) 16 left (omega arith) long _ mask (omega arith) in
+    let on = ap before-feed (drop-drop 16 (c .chunks .at) text) in
+    (omega arith, omega (arith, f, on, c .chunks .inv .1))
 
 pub returns : need.returns
-returns c = record {
-  within = omega arith;
-  value = omega (arith, c .scan .inv, leading-drop-all (λ b. not (eqb b 10)) (c .args .text .now) (c .scan .i) (omega arith));
-  split = splits (c .args .text .now);
-}
+returns c =
+    let text = c .args .text .now in
+    let rest = take-rest text (c .chunks .at) in
+    let size = ap length rest ∙ length-drop (c .chunks .at) text in
+    record {
+      within = omega (arith, c .scanned .ensures .within);
+      value = omega (arith, c .scanned .ensures .value, ap before-feed rest, c .chunks .inv .1);
+      split = splits text;
+    }
