@@ -10,9 +10,14 @@ use Rattle.std.specs.shelf.Lists.{sum, leading}
 use Rattle.std.proofs.shelf.Lists.{drop-drop}
 use Rattle.hextext.specs.Digits.{is-digit, Digits, bytes-of}
 use Rattle.std.specs.declared.result.Result.the-variants.{Err}
+use Rattle.ihex.specs.declared.fault.Reason.{Reason}
 use Rattle.ihex.specs.declared.fault.HexFault.{HexFault}
 use Rattle.ihex.specs.declared.record.Header.{Header}
-use Rattle.ihex.specs.Rules.{bytes, count, place, kind, Colon, Spelt, Sized, Summed, Formed, DataLine, EndLine, Headed, Unpaired, LineRead}
+use Rattle.ihex.specs.Rules.{bytes, count, place, kind, Colon, Spelt, Sized, Summed, Formed, DataLine, EndLine, Headed, Unpaired, Broken, offset, fault-at, LineRead}
+
+-- a refusal at the line's start
+pub broken-read : (line : List ℕ) (r : Reason) (n p : ℕ) (e : HexFault) → e ≡ fault-at r n p → Broken r line → offset r line ≡ 0 → LineRead line n p (Err e)
+broken-read line r n p e is b z = subst (λ f. LineRead line n p (Err f)) (sym is) (b, refl, sym (ap (λ k. p + k) z ∙ add-zero p))
 
 -- ds is what follows the first byte of the line
 module _ (line ds : List ℕ) (is : ds ≡ drop 1 line) where

@@ -79,6 +79,9 @@ module _ (text : List ℕ) (size n f : ℕ) (s : Survey) (image : List ℕ) (l :
         named = ap (fault-at OutOfOrder (n + 1)) at;
       }))
 
+  pub refused-none : (held : List ℕ) (p : ℕ) → held ≡ text → from-line held n ≡ [] → p ≡ start text n → Refused text size (fault-at MissingEnd (n + 1) p)
+  refused-none held p is none at = record { lines = n; before = l .before; stops = subst (λ t. from-line t n ≡ []) is none; named = ap (fault-at MissingEnd (n + 1)) at }
+
   pub refused-more : (m p : ℕ) → Closes text n → m ≡ n + 1 → p ≡ start text m → p < length text → Refused text size (fault-at AfterEnd (m + 1) p)
   refused-more m p closes em at less =
       let line-is : m + 1 ≡ n + 2 = omega arith in

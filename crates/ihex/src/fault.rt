@@ -1,5 +1,6 @@
 ghost use mathlib.Core.Path.{_≡_};
 ghost use Rattle.ihex.specs.Faults.{refusal-number};
+ghost use Rattle.ihex.specs.Rules.{fault-at};
 
 // Why a text is refused.
 #[derive(Clone, Copy, Debug, PartialEq)]
@@ -42,4 +43,17 @@ pub struct HexFault {
     pub reason: Reason,
     pub line: usize,
     pub position: usize,
+}
+
+impl HexFault {
+    // The refusal for a reason, at a line and a position.
+    pub(crate) fn at(reason: Reason, line: usize, position: usize) -> HexFault
+        ensures { λ r. ⌜ r ≡ fault-at reason line position ⌝ }
+    {
+        HexFault {
+            reason,
+            line,
+            position,
+        }
+    }
 }

@@ -80,29 +80,15 @@ fn place_all(text: &[u8], image: &mut [u8]) -> Result<Survey, HexFault>
                     survey = survey.with(place, digits.len() / 2);
                     floor = end;
                 }
-                Err(reason) => return Err(HexFault {
-                    reason,
-                    line,
-                    position,
-                }),
+                Err(reason) => return Err(HexFault::at(reason, line, position)),
             },
             Some(Record::End) => {
                 if reader.position < text.len() {
-                    let line = reader.line + 1;
-                    let position = reader.position;
-                    return Err(HexFault {
-                        reason: Reason::AfterEnd,
-                        line,
-                        position,
-                    });
+                    return Err(HexFault::at(Reason::AfterEnd, reader.line + 1, reader.position));
                 }
                 return Ok(survey);
             }
-            None => return Err(HexFault {
-                reason: Reason::MissingEnd,
-                line,
-                position,
-            }),
+            None => return Err(HexFault::at(Reason::MissingEnd, line, position)),
         }
     }
 }
@@ -122,11 +108,7 @@ pub fn fill(text: &[u8], image: &mut [u8]) -> Result<Survey, HexFault>
     ensures sole { λ _. ⌜ Sole (now (text .entry)) (now (image .entry)) ⌝ }
 {
     if too_long(text, image) {
-        return Err(HexFault {
-            reason: Reason::TooLong,
-            line: 0,
-            position: 0,
-        });
+        return Err(HexFault::at(Reason::TooLong, 0, 0));
     }
     blank(image);
     match place_all(text, image) {

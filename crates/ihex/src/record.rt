@@ -59,18 +59,9 @@ fn unpaired(digits: &[u8], line: usize, position: usize) -> HexFault
 {
     let run = digit_run(digits);
     if run < digits.len() {
-        let position = position + 1 + run;
-        HexFault {
-            reason: Reason::NotADigit,
-            line,
-            position,
-        }
+        HexFault::at(Reason::NotADigit, line, position + 1 + run)
     } else {
-        HexFault {
-            reason: Reason::WrongLength,
-            line,
-            position,
-        }
+        HexFault::at(Reason::WrongLength, line, position)
     }
 }
 
@@ -83,35 +74,21 @@ pub(crate) fn read_record<'a>(
     requires { ⌜ position + length (now line) < 2 ^ 64 ⌝ }
     ensures { λ r. ⌜ LineRead (now (line .entry)) number position r ⌝ }
 {
-    let fault = HexFault {
-        reason: Reason::MissingColon,
-        line: number,
-        position,
-    };
     let [b':', digits @ ..] = line else {
-        return Err(fault);
+        return Err(HexFault::at(Reason::MissingColon, number, position));
     };
     let Some(sum) = pair_sum(digits) else {
         return Err(unpaired(digits, number, position));
     };
     let Some((header, body)) = take_header(digits) else {
-        return Err(HexFault {
-            reason: Reason::WrongLength,
-            ..fault
-        });
+        return Err(HexFault::at(Reason::WrongLength, number, position));
     };
     let size = 2 * header.count as usize;
     if body.len() != size + 2 {
-        return Err(HexFault {
-            reason: Reason::WrongLength,
-            ..fault
-        });
+        return Err(HexFault::at(Reason::WrongLength, number, position));
     }
     if sum != 0 {
-        return Err(HexFault {
-            reason: Reason::WrongSum,
-            ..fault
-        });
+        return Err(HexFault::at(Reason::WrongSum, number, position));
     }
     match header.kind {
         0 => Ok(Record::Data {
@@ -119,9 +96,6 @@ pub(crate) fn read_record<'a>(
             digits: &body[0..size],
         }),
         1 if header.count == 0 => Ok(Record::End),
-        _ => Err(HexFault {
-            reason: Reason::UnknownType,
-            ..fault
-        }),
+        _ => Err(HexFault::at(Reason::UnknownType, number, position)),
     }
 }

@@ -5,12 +5,13 @@ use denote.Ref.{now}
 use lib.ListN.{length}
 use Rattle.std.proofs.shelf.Results.{err-from-errBy}
 use Rattle.std.specs.declared.option.Option.the-variants.{Some}
+use Rattle.std.specs.declared.result.Result.the-variants.{Ok}
 use Rattle.hextext.specs.Lines.{start}
 use Rattle.ihex.specs.declared.record.Record.the-variants.{Data, End}
-use Rattle.ihex.specs.Reads.{Shown}
-use Rattle.ihex.specs.Files.{Closes}
+use Rattle.ihex.specs.Reads.{Shown, Next}
+use Rattle.ihex.specs.Files.{Closes, Refused}
 use Rattle.ihex.proofs.Laid.{laid-none, laid-more, total-below, length-shown, half-shown, digits-shown}
-use Rattle.ihex.proofs.Turns.{shown-of, closes-of, moved-of, start-less, refused-line, refused-put, refused-more, accepted}
+use Rattle.ihex.proofs.Turns.{shown-of, closes-of, moved-of, start-less, refused-line, refused-none, refused-put, refused-more, accepted}
 use Rattle.ihex.proofs.image.place_all.Needs as need
 use Rattle.ihex.proofs.image.place_all.Needs.{In-Some-Data, In-Some-End}
 
@@ -82,7 +83,8 @@ records-again c =
 pub returns-in-Err : need.returns-in-Err
 returns-in-Err c =
     let at = need.at·returns-in-Err c .In-Some-Data in
-    refused-put (c .args .text .now) (length (c .args .image .now)) (c .records .reader .line) (c .records .floor) (c .records .survey) (c .records .image) (c .records .inv .1) (c .in-Some-Data .place) (c .records .reader .position) (c .in-Some-Data .digits .now) (c .put .last .image) (c .in-Err .reason) (shown at) (stood at) (c .in-Err .ensures tt)
+    subst (Refused (c .args .text .now) (length (c .args .image .now))) (sym (c .at .ensures))
+    (refused-put (c .args .text .now) (length (c .args .image .now)) (c .records .reader .line) (c .records .floor) (c .records .survey) (c .records .image) (c .records .inv .1) (c .in-Some-Data .place) (c .records .reader .position) (c .in-Some-Data .digits .now) (c .put .last .image) (c .in-Err .reason) (shown at) (stood at) (c .in-Err .ensures tt))
 
 -- at an end record
 is-end : (c : In-Some-End) → c .in-Continue-place .field-0 ≡ Some End
@@ -100,9 +102,17 @@ ends c = c .in-Continue-place .ensures tt .stands ∙ ap (λ t. start t (c .next
 pub returns-then-reader-text : need.returns-then-reader-text
 returns-then-reader-text c =
     let at = need.at·returns-then-reader-text c .In-Some-End in
-    refused-more (c .args .text .now) (length (c .args .image .now)) (c .records .reader .line) (c .records .floor) (c .records .survey) (c .records .image) (c .records .inv .1) (c .next .last .self .line) (c .next .last .self .position) (closes at) (ended at) (ends at) (omega arith)
+    subst (Refused (c .args .text .now) (length (c .args .image .now))) (sym (c .at-then-reader-text .ensures))
+    (refused-more (c .args .text .now) (length (c .args .image .now)) (c .records .reader .line) (c .records .floor) (c .records .survey) (c .records .image) (c .records .inv .1) (c .next .last .self .line) (c .next .last .self .position) (closes at) (ended at) (ends at) (omega arith))
 
 pub returns-in-Some-End : need.returns-in-Some-End
 returns-in-Some-End c =
     let at = need.at·returns-in-Some-End c .In-Some-End in
     accepted (c .args .text .now) (length (c .args .image .now)) (c .records .reader .line) (c .records .floor) (c .records .survey) (c .records .image) (c .records .inv .1) (c .next .last .self .line) (c .next .last .self .position) (closes at) (ended at) (ends at) (omega arith)
+
+pub returns-in-None : need.returns-in-None
+returns-in-None c =
+    let inv = c .records .inv in
+    let none = subst (λ o. Next (now (c .records .reader .text)) (c .records .reader .line) (Ok o)) (c .in-None .is) (c .in-Continue-place .ensures tt .answer) in
+    subst (Refused (c .args .text .now) (length (c .args .image .now))) (sym (c .at-in-None .ensures))
+    (refused-none (c .args .text .now) (length (c .args .image .now)) (c .records .reader .line) (c .records .floor) (c .records .survey) (c .records .image) (inv .1) (now (c .records .reader .text)) (c .records .reader .position) (inv .0) none (c .records .reader .at ∙ ap (λ t. start t (c .records .reader .line)) (inv .0)))

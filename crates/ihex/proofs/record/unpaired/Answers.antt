@@ -1,4 +1,4 @@
-use mathlib.Core.Path.{_≡_, refl, ap}
+use mathlib.Core.Path.{_≡_, ap, _∙_}
 use mathlib.Core.Logic.{inl, inr}
 use Prim.Native.Nat.{_+_}
 use native.Mathlib.Omega.{arith}
@@ -14,10 +14,10 @@ returns-then-run-digits c =
     let digits = c .args .digits .now in
     let r = c .digit-run-run .ensures in
     let at : c .args .position + 1 + c .digit-run-run .result ≡ c .args .position + (1 + leading is-digit digits) = omega (arith, run-leading digits _ r) in
-    inl (run-short digits _ r (c .if-run-digits .taken), ap (fault-at NotADigit (c .args .line)) at)
+    inl (run-short digits _ r (c .if-run-digits .taken), c .at .ensures ∙ ap (fault-at NotADigit (c .args .line)) at)
 
 pub returns-else-run-digits : need.returns-else-run-digits
 returns-else-run-digits c =
     let digits = c .args .digits .now in
     let all = run-all digits _ (c .digit-run-run .ensures) (c .if-run-digits .left) in
-    inr (all, odd-length digits (c .pre .0) all, refl)
+    inr (all, odd-length digits (c .pre .0) all, c .at-else-run-digits .ensures)
