@@ -6,7 +6,9 @@ mod tests {
     use ihex::HexFaultPartialEq;
     use ihex::MAX_IMAGE;
     use ihex::MAX_TEXT;
+    use ihex::Reader;
     use ihex::Reason;
+    use ihex::Record;
     use ihex::Span;
     use ihex::Survey;
     use ihex::SurveyDebug;
@@ -253,5 +255,39 @@ mod tests {
                 span,
             }),
         )
+    }
+
+    // The next record is data at a place, with these digits.
+    fn gives(reader: &mut Reader<'_>, at: u16, text: &[u8]) -> Result<(), Fail> {
+        match reader.next()? {
+            Some(Record::Data { place, digits }) => {
+                check_eq(place, at)?;
+                check_eq(digits, text)
+            }
+            _ => Err(Fail::new("no data record")),
+        }
+    }
+
+    #[test]
+    fn a_reader_gives_records_one_by_one() -> Result<(), Fail> {
+        let mut reader = Reader::new(b":03001000050AFFDF\r\n:01001300fFed\n:00000001FF");
+        gives(&mut reader, 0x10, b"050AFF")?;
+        gives(&mut reader, 0x13, b"fF")?;
+        check(matches!(reader.next()?, Some(Record::End)))?;
+        check(matches!(reader.next()?, None))?;
+        check(matches!(reader.next()?, None))
+    }
+
+    #[test]
+    fn a_reader_stays_at_a_line_that_it_refuses() -> Result<(), Fail> {
+        let mut reader = Reader::new(b":00000001FF\n:00000000x0\n");
+        check(matches!(reader.next()?, Some(Record::End)))?;
+        let fault = HexFault {
+            reason: Reason::NotADigit,
+            line: 2,
+            position: 21,
+        };
+        check_eq(reader.next().err(), Some(fault))?;
+        check_eq(reader.next().err(), Some(fault))
     }
 }

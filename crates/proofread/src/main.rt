@@ -22,20 +22,24 @@ fn read_text(rt: &LibcRuntime) -> Result<Vec<u8>, AnyError> {
     Ok(text)
 }
 
-fn run(rt: &LibcRuntime) -> Result<(), AnyError> {
+// Proof-reads standard input, and says whether it is accepted.
+fn run(rt: &LibcRuntime) -> Result<bool, AnyError> {
     let text = read_text(rt)?;
     let mut image = vec![in rt.alloc(); 0xffu8; MAX_IMAGE]?;
     let answer = fill(&text, &mut image);
     let accepted = answer.is_ok();
     let page = report(rt.alloc(), answer)?;
     print!(rt, "{page}")?;
-    if accepted {
-        Ok(())
-    } else {
-        Err("the profile is refused".into())
-    }
+    Ok(accepted)
 }
 
 fn main(rt: LibcRuntime) -> Result<(), AnyError> {
-    run(&rt)
+    match run(&rt) {
+        Ok(true) => Ok(()),
+        Ok(false) => Err("the profile is refused".into()),
+        Err(error) => {
+            eprintln!(rt, "proofread: {error}")?;
+            Err(error)
+        }
+    }
 }

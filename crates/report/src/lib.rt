@@ -97,3 +97,55 @@ pub fn report(heap: Global, answer: Result<Survey, HexFault>) -> Result<String, 
         Err(fault) => refusal(heap, fault),
     }
 }
+
+#[cfg(test)]
+mod tests {
+    use super::*;
+    use std::test::*;
+
+    #[test]
+    fn tells_what_was_found(rt: LibcRuntime) -> Result<(), Fail> {
+        let span = Some(Span {
+            lowest: 0x10,
+            highest: 0x7fae,
+        });
+        let page = report(
+            rt.alloc(),
+            Ok(Survey {
+                records: 12,
+                bytes: 180,
+                span,
+            }),
+        )?;
+        check_eq(
+            page.as_str(),
+            "verdict: accepted\nrecords: 12\nbytes: 180\nlowest: 0010\nhighest: 7FAE\n",
+        )?;
+        let page = report(
+            rt.alloc(),
+            Ok(Survey {
+                records: 0,
+                bytes: 0,
+                span: None,
+            }),
+        )?;
+        check_eq(
+            page.as_str(),
+            "verdict: accepted\nrecords: 0\nbytes: 0\nlowest: none\nhighest: none\n",
+        )
+    }
+
+    #[test]
+    fn tells_why_a_text_is_refused(rt: LibcRuntime) -> Result<(), Fail> {
+        let fault = HexFault {
+            reason: Reason::WrongSum,
+            line: 17,
+            position: 1048,
+        };
+        let page = report(rt.alloc(), Err(fault))?;
+        check_eq(
+            page.as_str(),
+            "verdict: refused\nnumber: 33\nline: 17\nposition: 1048\nreason: the bytes of the line do not add up to 0 modulo 256\n",
+        )
+    }
+}
