@@ -37,7 +37,7 @@ line text n = line-of (from-line text n)
 abbrev pub start : List ℕ → ℕ → ℕ
 start text n = length text - length (from-line text n)
 
--- the ways in which the first line of xs can end, with what then follows: no other split of xs meets this
+-- the first line of xs has no LF in it, and ends in LF, in CR LF, or where xs does; what follows is the rest
 pub record Split (xs line rest : List ℕ) : Type 0 where
   pub unbroken : All (λ b. b ≡ 10 → ⊥) line
   pub ended : ((xs ≡ line ++ (10 ∷ rest)) × (getD line (length line - 1) 0 ≡ 13 → ⊥)) ⊎ ((xs ≡ line ++ (13 ∷ (10 ∷ rest))) ⊎ ((xs ≡ line) × (rest ≡ [])))

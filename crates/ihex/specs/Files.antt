@@ -8,13 +8,13 @@ use Rattle.std.specs.declared.option.Option.{Option}
 use Rattle.std.specs.declared.option.Option.the-variants.{Some, None}
 use Rattle.std.specs.declared.result.Result.{Result}
 use Rattle.std.specs.declared.result.Result.the-variants.{Ok, Err}
-use Rattle.hextext.specs.Lines.{from-line, line}
+use Rattle.hextext.specs.Lines.{from-line, line, Split}
 use Rattle.ihex.specs.declared.fault.Reason.{Reason}
 use Rattle.ihex.specs.declared.fault.Reason.the-variants.{MissingColon, NotADigit, WrongLength, WrongSum, UnknownType, OutOfRange, OutOfOrder, MissingEnd, AfterEnd, TooLong}
 use Rattle.ihex.specs.declared.fault.HexFault.{HexFault}
 use Rattle.ihex.specs.declared.survey.Span.{Span}
 use Rattle.ihex.specs.declared.survey.Survey.{Survey}
-use Rattle.ihex.specs.Rules.{count, place, payload, DataLine, EndLine, Broken, fault-at}
+use Rattle.ihex.specs.Rules.{count, place, payload, DataLine, EndLine, Broken}
 use Rattle.ihex.specs.Faults.{fault, refusal-number}
 use Rattle.ihex.specs.Reads.{There}
 
@@ -101,8 +101,8 @@ Read text image (Ok s) after = Accepted text (length image) s after
 Read text image (Err e) after = Refused text (length image) e × (after ≡ replicate (length image) 255)
 
 pub record Filled (text image : List ℕ) (r : Result Survey HexFault) (after : List ℕ) : Type 0 where
-  pub long-text : 1048576 < length text → (r ≡ Err (fault-at TooLong 0 0)) × (after ≡ image)
-  pub long-image : 32768 < length image → (r ≡ Err (fault-at TooLong 0 0)) × (after ≡ image)
+  pub long-text : 1048576 < length text → (r ≡ Err (fault TooLong text 0)) × (after ≡ image)
+  pub long-image : 32768 < length image → (r ≡ Err (fault TooLong text 0)) × (after ≡ image)
   pub read : length text ≤ 1048576 → length image ≤ 32768 → Read text image r after
 
 -- 0 for an accepted text, and the number of a refusal
@@ -117,3 +117,7 @@ pub record FilledByNumber (text image : List ℕ) (number : ℕ) (after : List �
 -- no two answers, and no two images, are right for one text and one image
 abbrev pub Sole : List ℕ → List ℕ → Type 0
 Sole text image = (r t : Result Survey HexFault) (a b : List ℕ) → Filled text image r a → Filled text image t b → (r ≡ t) × (a ≡ b)
+
+-- each line is what stands before LF, CR LF or the text's end, and the next line follows that
+abbrev pub Lined : List ℕ → Type 0
+Lined text = (n : ℕ) → Split (from-line text n) (line text n) (from-line text (suc n))

@@ -6,7 +6,7 @@ ghost use lib.ListN.{length, replicate};
 ghost use Rattle.hextext.specs.Digits.{Digits, bytes-of};
 ghost use Rattle.std.specs.Results.{Cases as ByOk};
 ghost use Rattle.ihex.specs.Places.{PutIn};
-ghost use Rattle.ihex.specs.Files.{Accepted, Refused, Filled, Sole};
+ghost use Rattle.ihex.specs.Files.{Accepted, Refused, Filled, Sole, Lined};
 use crate::fault::HexFault;
 use crate::fault::Reason;
 use crate::reader::Reader;
@@ -97,6 +97,7 @@ fn place_all(text: &[u8], image: &mut [u8]) -> Result<Survey, HexFault>
 fn too_long(text: &[u8], image: &[u8]) -> bool
     ensures test { λ r. ⌜ Decides r ((1048576 < length (now (text .entry))) ⊎ (32768 < length (now (image .entry)))) ⌝ }
     ensures sole { λ _. ⌜ Sole (now (text .entry)) (now (image .entry)) ⌝ }
+    ensures lined { λ _. ⌜ Lined (now (text .entry)) ⌝ }
 {
     text.len() > MAX_TEXT || image.len() > MAX_IMAGE
 }
@@ -106,6 +107,7 @@ fn too_long(text: &[u8], image: &[u8]) -> bool
 pub fn fill(text: &[u8], image: &mut [u8]) -> Result<Survey, HexFault>
     ensures read { λ r. ⌜ Filled (now (text .entry)) (now (image .entry)) r (now (image .exit)) ⌝ }
     ensures sole { λ _. ⌜ Sole (now (text .entry)) (now (image .entry)) ⌝ }
+    ensures lined { λ _. ⌜ Lined (now (text .entry)) ⌝ }
 {
     if too_long(text, image) {
         return Err(HexFault::at(Reason::TooLong, 0, 0));
