@@ -41,3 +41,7 @@ start text n = length text - length (from-line text n)
 pub record Split (xs line rest : List ℕ) : Type 0 where
   pub unbroken : All (λ b. b ≡ 10 → ⊥) line
   pub ended : ((xs ≡ line ++ (10 ∷ rest)) × (getD line (length line - 1) 0 ≡ 13 → ⊥)) ⊎ ((xs ≡ line ++ (13 ∷ (10 ∷ rest))) ⊎ ((xs ≡ line) × (rest ≡ [])))
+
+-- no other split of xs is one
+abbrev pub OnlySplit : List ℕ → List ℕ → List ℕ → Type 0
+OnlySplit xs line rest = (l r : List ℕ) → Split xs l r → (l ≡ line) × (r ≡ rest)

@@ -1,7 +1,7 @@
 ghost use mathlib.Core.Path.{_≡_};
 ghost use Prim.Native.Nat.{_≤_};
 ghost use lib.ListN.{length};
-ghost use Rattle.hextext.specs.Lines.{before-feed, chomped, line-of, after-line, Split};
+ghost use Rattle.hextext.specs.Lines.{before-feed, chomped, line-of, after-line, Split, OnlySplit};
 use std::simd::prelude::*;
 
 // How many bytes of a text are looked at together.
@@ -25,6 +25,7 @@ fn line_feed(text: &[u8]) -> usize
     ensures within { λ r. ⌜ r ≤ length (now (text .entry)) ⌝ }
     ensures value { λ r. ⌜ r ≡ before-feed (now (text .entry)) ⌝ }
     ensures split { λ _. ⌜ Split (now (text .entry)) (line-of (now (text .entry))) (after-line (now (text .entry))) ⌝ }
+    ensures only { λ _. ⌜ OnlySplit (now (text .entry)) (line-of (now (text .entry))) (after-line (now (text .entry))) ⌝ }
 {
     let mut at = 0;
     'chunks: while text.len() - at >= LANES {
@@ -53,6 +54,7 @@ pub fn split_line<'a>(text: &'a [u8]) -> (&'a [u8], &'a [u8])
     ensures line { λ r. ⌜ now (r .0) ≡ line-of (now (text .entry)) ⌝ }
     ensures rest { λ r. ⌜ now (r .1) ≡ after-line (now (text .entry)) ⌝ }
     ensures split { λ r. ⌜ Split (now (text .entry)) (now (r .0)) (now (r .1)) ⌝ }
+    ensures only { λ _. ⌜ OnlySplit (now (text .entry)) (line-of (now (text .entry))) (after-line (now (text .entry))) ⌝ }
 {
     let end = line_feed(text);
     if end == text.len() {

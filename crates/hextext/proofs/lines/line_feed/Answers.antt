@@ -10,7 +10,7 @@ use Rattle.std.proofs.shelf.Lanes.{bitmask-splat}
 use Rattle.std.proofs.shelf.Lists.{take-rest, length-take-le, drop-drop}
 use Rattle.hextext.specs.Lines.{before-feed}
 use Rattle.hextext.proofs.Scans.{none-found, found}
-use Rattle.hextext.proofs.Splits.{splits}
+use Rattle.hextext.proofs.Splits.{splits, only}
 use Rattle.hextext.proofs.lines.line_feed.Needs as need
 
 pub returns-then-feeds-ne0 : need.returns-then-feeds-ne0
@@ -25,6 +25,7 @@ returns-then-feeds-ne0 c =
       within = omega (arith, f .1);
       value = omega (arith, f .0, c .chunks .inv .1);
       split = splits text;
+      only = only text;
     }
 
 pub chunks-again : need.chunks-again
@@ -47,4 +48,5 @@ returns c =
       within = omega (arith, c .scanned .ensures .within);
       value = omega (arith, c .scanned .ensures .value, ap before-feed rest, c .chunks .inv .1);
       split = splits text;
+      only = only text;
     }
