@@ -62,36 +62,49 @@ module _ (text : List ℕ) (size n f : ℕ) (s : Survey) (image : List ℕ) (l :
       let p = subst (λ t. Next t n (Err e)) is answer in
       record { lines = n; before = l .before; stops = stops-of (e .reason) text size n (p .0) (p .1); named = p .2 }
 
-  pub refused-put : (q p : ℕ) (d after : List ℕ) (r : Reason) → Shown text n q d → p ≡ start text n → PutIn image f q d (Err r) after → Refused text size (fault-at r (n + 1) p)
-  refused-put q p d after r sh at =
-      let c = half-shown text n q d sh in
-      ⊎-elim
-      (λ out. subst (λ x. Refused text size (fault-at x (n + 1) p)) (sym (out .0)) (record {
-        lines = n;
-        before = l .before;
-        stops = (sh .there, sh .formed, omega (arith, out .1, l .long, c, sh .place-is));
-        named = ap (fault-at OutOfRange (n + 1)) at;
-      }))
-      (λ low. subst (λ x. Refused text size (fault-at x (n + 1) p)) (sym (low .0)) (record {
-        lines = n;
-        before = l .before;
-        stops = (sh .there, sh .formed, omega (arith, low .1, l .long, c, sh .place-is), omega (arith, low .2, l .floor-is, sh .place-is));
-        named = ap (fault-at OutOfOrder (n + 1)) at;
-      }))
-
-  pub refused-none : (held : List ℕ) (p : ℕ) → held ≡ text → from-line held n ≡ [] → p ≡ start text n → Refused text size (fault-at MissingEnd (n + 1) p)
-  refused-none held p is none at = record { lines = n; before = l .before; stops = subst (λ t. from-line t n ≡ []) is none; named = ap (fault-at MissingEnd (n + 1)) at }
-
-  pub refused-more : (m p : ℕ) → Closes text n → m ≡ n + 1 → p ≡ start text m → p < length text → Refused text size (fault-at AfterEnd (m + 1) p)
-  refused-more m p closes em at less =
-      let line-is : m + 1 ≡ n + 2 = omega arith in
-      let next = at ∙ ap (start text) (em ∙ add-one n) in
+  -- a refusal that is made for a reason, where the line stands that shows it
+  stopped : (r : Reason) (e : HexFault) → e ≡ fault r text n → Stops r text size n → Refused text size e
+  stopped r e is stops =
+      let why : e .reason ≡ r = ap (λ f. f .reason) is ∙ reason-of r in
       record {
         lines = n;
         before = l .before;
-        stops = (closes, omega arith);
-        named = ap (λ i. fault-at AfterEnd i p) line-is ∙ ap (fault-at AfterEnd (n + 2)) next;
+        stops = subst (λ q. Stops q text size n) (sym why) stops;
+        named = is ∙ ap (λ q. fault q text n) (sym why);
       }
+    where
+      reason-of : (q : Reason) → fault q text n .reason ≡ q
+      reason-of MissingColon = refl
+      reason-of NotADigit = refl
+      reason-of WrongLength = refl
+      reason-of WrongSum = refl
+      reason-of UnknownType = refl
+      reason-of OutOfRange = refl
+      reason-of OutOfOrder = refl
+      reason-of MissingEnd = refl
+      reason-of AfterEnd = refl
+      reason-of TooLong = refl
+
+  pub refused-put : (q p : ℕ) (d after : List ℕ) (r : Reason) (e : HexFault) → Shown text n q d → p ≡ start text n → PutIn image f q d (Err r) after → e ≡ fault-at r (n + 1) p → Refused text size e
+  refused-put q p d after r e sh at put is =
+      let c = half-shown text n q d sh in
+      let start-is = is ∙ ap (fault-at r (n + 1)) at in
+      ⊎-elim
+      (λ out.
+      stopped OutOfRange e (start-is ∙ ap (λ x. fault-at x (n + 1) (start text n)) (out .0)) (sh .there, sh .formed, omega (arith, out .1, l .long, c, sh .place-is)))
+      (λ low.
+      stopped OutOfOrder e (start-is ∙ ap (λ x. fault-at x (n + 1) (start text n)) (low .0))
+      (sh .there, sh .formed, omega (arith, low .1, l .long, c, sh .place-is), omega (arith, low .2, l .floor-is, sh .place-is)))
+      put
+
+  pub refused-none : (held : List ℕ) (p : ℕ) (e : HexFault) → held ≡ text → from-line held n ≡ [] → p ≡ start text n → e ≡ fault-at MissingEnd (n + 1) p → Refused text size e
+  refused-none held p e same none at is = stopped MissingEnd e (is ∙ ap (fault-at MissingEnd (n + 1)) at) (subst (λ t. from-line t n ≡ []) same none)
+
+  pub refused-more : (m p : ℕ) (e : HexFault) → Closes text n → m ≡ n + 1 → p ≡ start text m → p < length text → e ≡ fault-at AfterEnd (m + 1) p → Refused text size e
+  refused-more m p e closes em at less is =
+      let line-is : m + 1 ≡ n + 2 = omega arith in
+      let next = at ∙ ap (start text) (em ∙ add-one n) in
+      stopped AfterEnd e (is ∙ ap (λ i. fault-at AfterEnd i p) line-is ∙ ap (fault-at AfterEnd (n + 2)) next) (closes, omega arith)
 
   pub accepted : (m p : ℕ) → Closes text n → m ≡ n + 1 → p ≡ start text m → length text ≤ p → Accepted text size s image
   accepted m p closes em at all =

@@ -9,7 +9,7 @@ use Rattle.std.specs.declared.result.Result.the-variants.{Ok}
 use Rattle.hextext.specs.Lines.{start}
 use Rattle.ihex.specs.declared.record.Record.the-variants.{Data, End}
 use Rattle.ihex.specs.Reads.{Shown, Next}
-use Rattle.ihex.specs.Files.{Closes, Refused}
+use Rattle.ihex.specs.Files.{Closes}
 use Rattle.ihex.proofs.Laid.{laid-none, laid-more, total-below, length-shown, half-shown, digits-shown}
 use Rattle.ihex.proofs.Turns.{shown-of, closes-of, moved-of, start-less, refused-line, refused-none, refused-put, refused-more, accepted}
 use Rattle.ihex.proofs.image.place_all.Needs as need
@@ -83,8 +83,7 @@ records-again c =
 pub returns-in-Err : need.returns-in-Err
 returns-in-Err c =
     let at = need.at·returns-in-Err c .In-Some-Data in
-    subst (Refused (c .args .text .now) (length (c .args .image .now))) (sym (c .at .ensures))
-    (refused-put (c .args .text .now) (length (c .args .image .now)) (c .records .reader .line) (c .records .floor) (c .records .survey) (c .records .image) (c .records .inv .1) (c .in-Some-Data .place) (c .records .reader .position) (c .in-Some-Data .digits .now) (c .put .last .image) (c .in-Err .reason) (shown at) (stood at) (c .in-Err .ensures tt))
+    refused-put (c .args .text .now) (length (c .args .image .now)) (c .records .reader .line) (c .records .floor) (c .records .survey) (c .records .image) (c .records .inv .1) (c .in-Some-Data .place) (c .records .reader .position) (c .in-Some-Data .digits .now) (c .put .last .image) (c .in-Err .reason) (c .at .result) (shown at) (stood at) (c .in-Err .ensures tt) (c .at .ensures)
 
 -- at an end record
 is-end : (c : In-Some-End) → c .in-Continue-place .field-0 ≡ Some End
@@ -102,8 +101,7 @@ ends c = c .in-Continue-place .ensures tt .stands ∙ ap (λ t. start t (c .next
 pub returns-then-reader-text : need.returns-then-reader-text
 returns-then-reader-text c =
     let at = need.at·returns-then-reader-text c .In-Some-End in
-    subst (Refused (c .args .text .now) (length (c .args .image .now))) (sym (c .at-then-reader-text .ensures))
-    (refused-more (c .args .text .now) (length (c .args .image .now)) (c .records .reader .line) (c .records .floor) (c .records .survey) (c .records .image) (c .records .inv .1) (c .next .last .self .line) (c .next .last .self .position) (closes at) (ended at) (ends at) (omega arith))
+    refused-more (c .args .text .now) (length (c .args .image .now)) (c .records .reader .line) (c .records .floor) (c .records .survey) (c .records .image) (c .records .inv .1) (c .next .last .self .line) (c .next .last .self .position) (c .at-then-reader-text .result) (closes at) (ended at) (ends at) (omega arith) (c .at-then-reader-text .ensures)
 
 pub returns-in-Some-End : need.returns-in-Some-End
 returns-in-Some-End c =
@@ -114,5 +112,4 @@ pub returns-in-None : need.returns-in-None
 returns-in-None c =
     let inv = c .records .inv in
     let none = subst (λ o. Next (now (c .records .reader .text)) (c .records .reader .line) (Ok o)) (c .in-None .is) (c .in-Continue-place .ensures tt .answer) in
-    subst (Refused (c .args .text .now) (length (c .args .image .now))) (sym (c .at-in-None .ensures))
-    (refused-none (c .args .text .now) (length (c .args .image .now)) (c .records .reader .line) (c .records .floor) (c .records .survey) (c .records .image) (inv .1) (now (c .records .reader .text)) (c .records .reader .position) (inv .0) none (c .records .reader .at ∙ ap (λ t. start t (c .records .reader .line)) (inv .0)))
+    refused-none (c .args .text .now) (length (c .args .image .now)) (c .records .reader .line) (c .records .floor) (c .records .survey) (c .records .image) (inv .1) (now (c .records .reader .text)) (c .records .reader .position) (c .at-in-None .result) (inv .0) none (c .records .reader .at ∙ ap (λ t. start t (c .records .reader .line)) (inv .0)) (c .at-in-None .ensures)
