@@ -16,9 +16,10 @@ use Rattle.ihex.specs.declared.fault.Reason.the-variants.{MissingColon, NotADi
 use Rattle.ihex.specs.declared.fault.HexFault.{HexFault}
 use Rattle.ihex.specs.declared.record.Record.{Record}
 use Rattle.ihex.specs.declared.record.Record.the-variants.{Data, End}
-use Rattle.ihex.specs.Rules.{count, Broken, offset, fault-at, LineRead}
-use Rattle.ihex.specs.Faults.{fault}
+use Rattle.ihex.specs.Rules.{count, Broken, offset}
+use Rattle.ihex.specs.Faults.{fault, fault-at}
 use Rattle.ihex.specs.Reads.{There, Next}
+use Rattle.ihex.specs.Steps.{LineRead}
 
 module _ (text : List ℕ) (n p : ℕ) (at : p ≡ start text n) where
   -- what the reader cuts off the text

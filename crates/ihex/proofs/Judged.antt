@@ -13,7 +13,9 @@ use Rattle.std.specs.declared.result.Result.the-variants.{Err}
 use Rattle.ihex.specs.declared.fault.Reason.{Reason}
 use Rattle.ihex.specs.declared.fault.HexFault.{HexFault}
 use Rattle.ihex.specs.declared.record.Header.{Header}
-use Rattle.ihex.specs.Rules.{bytes, count, place, kind, Colon, Spelt, Sized, Summed, Formed, DataLine, EndLine, Headed, Unpaired, Broken, offset, fault-at, LineRead}
+use Rattle.ihex.specs.Rules.{bytes, count, place, kind, Colon, Spelt, Sized, Summed, Formed, DataLine, EndLine, Broken, offset}
+use Rattle.ihex.specs.Steps.{Headed, Unpaired, LineRead}
+use Rattle.ihex.specs.Faults.{fault-at}
 
 -- a refusal at the line's start
 pub broken-read : (line : List ℕ) (r : Reason) (n p : ℕ) (e : HexFault) → e ≡ fault-at r n p → Broken r line → offset r line ≡ 0 → LineRead line n p (Err e)

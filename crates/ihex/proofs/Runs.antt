@@ -13,7 +13,7 @@ use Rattle.std.proofs.shelf.Sums.{leading-le-length}
 use Rattle.std.proofs.shelf.Tests.{both-ways, cases-order}
 use Rattle.hextext.specs.Digits.{is-digit, Digits, Run}
 use Rattle.hextext.proofs.Splits.{passes, fails}
-use Rattle.ihex.specs.Rules.{Paired}
+use Rattle.ihex.specs.Steps.{Paired}
 
 module _ (xs : List ℕ) (n : ℕ) (run : Run xs n) where
   pub run-all : length xs ≤ n → Digits xs

@@ -19,8 +19,8 @@ use Rattle.ihex.specs.declared.fault.HexFault.{HexFault}
 use Rattle.ihex.specs.declared.record.Record.{Record}
 use Rattle.ihex.specs.declared.record.Record.the-variants.{Data, End}
 use Rattle.ihex.specs.declared.survey.Survey.{Survey}
-use Rattle.ihex.specs.Rules.{Broken, fault-at}
-use Rattle.ihex.specs.Faults.{fault}
+use Rattle.ihex.specs.Rules.{Broken}
+use Rattle.ihex.specs.Faults.{fault, fault-at}
 use Rattle.ihex.specs.Reads.{There, Shown, Next, Moves}
 use Rattle.ihex.specs.Places.{PutIn}
 use Rattle.ihex.specs.Files.{Placed, Closes, Stops, Refused, Accepted}

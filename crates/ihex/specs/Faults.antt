@@ -5,7 +5,10 @@ use Rattle.hextext.specs.Lines.{line, start}
 use Rattle.ihex.specs.declared.fault.Reason.{Reason}
 use Rattle.ihex.specs.declared.fault.Reason.the-variants.{MissingColon, NotADigit, WrongLength, WrongSum, UnknownType, OutOfRange, OutOfOrder, MissingEnd, AfterEnd, TooLong}
 use Rattle.ihex.specs.declared.fault.HexFault.{HexFault}
-use Rattle.ihex.specs.Rules.{fault-at, offset}
+use Rattle.ihex.specs.Rules.{offset}
+
+abbrev pub fault-at : Reason → ℕ → ℕ → HexFault
+fault-at r n p = record { reason = r; line = n; position = p }
 
 abbrev pub refusal-number : Reason → ℕ
 refusal-number MissingColon = 30

@@ -1,7 +1,7 @@
 -- What a reader answers, and where it then stands.
 use mathlib.Core.Path.{_≡_}
 use mathlib.Core.List.{List, []}
-use Prim.Native.Nat.{ℕ, _+_, _*_, _≤_, _<_}
+use Prim.Native.Nat.{ℕ, _+_, _*_, _<_}
 use lib.ListN.{length, take, drop}
 use Rattle.std.specs.declared.option.Option.{Option}
 use Rattle.std.specs.declared.option.Option.the-variants.{Some, None}
@@ -32,12 +32,6 @@ Next text n (Ok None) = from-line text n ≡ []
 Next text n (Ok (Some (Data q digits))) = Shown text n q (digits .now)
 Next text n (Ok (Some End)) = There text n × EndLine (line text n)
 Next text n (Err e) = There text n × Broken (e .reason) (line text n) × (e ≡ fault (e .reason) text n)
-
--- the same, with where the line after it starts
-abbrev pub Current : List ℕ → ℕ → Result (Option (Record × ℕ)) HexFault → Type 0
-Current text n (Ok None) = Next text n (Ok None)
-Current text n (Ok (Some p)) = Next text n (Ok (Some (p .0))) × (p .1 ≡ start text (n + 1)) × (start text n < p .1) × (p .1 ≤ length text)
-Current text n (Err e) = Next text n (Err e)
 
 -- a record moves the reader on by its line; the end of the lines, and a refusal, leave it where it is
 abbrev pub Moves : ℕ → Result (Option Record) HexFault → ℕ → Type 0

@@ -1,19 +1,12 @@
 -- One line of Intel HEX: what it holds, and the rules that it keeps or breaks, in the order in which they are judged.
 use mathlib.Core.Path.{_≡_}
 use mathlib.Core.List.{List, [], _∷_}
-use mathlib.Core.Logic.{_⊎_}
 use Prim.Native.Nat.{ℕ, _+_, _*_, _%_, _≤_}
 use lib.ListN.{length, getD, take, drop}
 use Rattle.std.specs.shelf.Lists.{sum, leading}
-use Rattle.std.specs.declared.result.Result.{Result}
-use Rattle.std.specs.declared.result.Result.the-variants.{Ok, Err}
 use Rattle.hextext.specs.Digits.{is-digit, Digits, bytes-of}
 use Rattle.ihex.specs.declared.fault.Reason.{Reason}
 use Rattle.ihex.specs.declared.fault.Reason.the-variants.{MissingColon, NotADigit, WrongLength, WrongSum, UnknownType, OutOfRange, OutOfOrder, MissingEnd, AfterEnd, TooLong}
-use Rattle.ihex.specs.declared.fault.HexFault.{HexFault}
-use Rattle.ihex.specs.declared.record.Header.{Header}
-use Rattle.ihex.specs.declared.record.Record.{Record}
-use Rattle.ihex.specs.declared.record.Record.the-variants.{Data, End}
 
 -- the bytes that a line's digits write, which follow its colon
 abbrev pub bytes : List ℕ → List ℕ
@@ -90,28 +83,3 @@ offset OutOfOrder line = 0
 offset MissingEnd line = 0
 offset AfterEnd line = 0
 offset TooLong line = 0
-
--- what reading a line answers, where it is line n and starts at position p
-abbrev pub LineRead : List ℕ → ℕ → ℕ → Result Record HexFault → Type 0
-LineRead line n p (Ok (Data q digits)) = DataLine line × (q ≡ place line) × (digits .now ≡ take (2 * count line) (drop 9 line))
-LineRead line n p (Ok End) = EndLine line
-LineRead line n p (Err e) = Broken (e .reason) line × (e .line ≡ n) × (e .position ≡ p + offset (e .reason) line)
-
--- pairs of digits, and nothing else
-pub record Paired (digits : List ℕ) : Type 0 where
-  pub spelt : Digits digits
-  pub even : length digits % 2 ≡ 0
-
--- the first four bytes, and the digits after them
-pub record Headed (digits : List ℕ) (header : Header) (rest : List ℕ) : Type 0 where
-  pub bytes : (high : ℕ) × (low : ℕ) × (bytes-of digits ≡ header .count ∷ (high ∷ (low ∷ (header .kind ∷ bytes-of rest)))) × (header .place ≡ high * 256 + low)
-  pub long : 8 ≤ length digits
-  pub rest-is : rest ≡ drop 8 digits
-
-abbrev pub fault-at : Reason → ℕ → ℕ → HexFault
-fault-at r n p = record { reason = r; line = n; position = p }
-
--- the rule that digits break which are not pairs throughout
-abbrev pub Unpaired : List ℕ → ℕ → ℕ → HexFault → Type 0
-Unpaired digits n p e =
-    ((Digits digits → ⊥) × (e ≡ fault-at NotADigit n (p + (1 + leading is-digit digits)))) ⊎ (Digits digits × (length digits % 2 ≡ 1) × (e ≡ fault-at WrongLength n p))

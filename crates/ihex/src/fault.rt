@@ -1,6 +1,5 @@
 ghost use mathlib.Core.Path.{_≡_};
-ghost use Rattle.ihex.specs.Faults.{refusal-number};
-ghost use Rattle.ihex.specs.Rules.{fault-at};
+ghost use Rattle.ihex.specs.Faults.{refusal-number, fault-at};
 
 // Why a text is refused.
 #[derive(Clone, Copy, Debug, PartialEq)]

@@ -5,7 +5,7 @@ ghost use lib.ListN.{length, drop};
 ghost use Rattle.std.specs.Options.{Cases as BySome};
 ghost use Rattle.std.specs.shelf.Lists.{sum};
 ghost use Rattle.hextext.specs.Digits.{bytes-of};
-ghost use Rattle.ihex.specs.Rules.{Paired, Headed, Unpaired, LineRead};
+ghost use Rattle.ihex.specs.Steps.{Paired, Headed, Unpaired, LineRead};
 use crate::fault::HexFault;
 use crate::fault::Reason;
 use hextext::digit_run;

@@ -3,6 +3,7 @@ use ihex::MAX_IMAGE;
 use ihex::MAX_TEXT;
 use ihex::fill;
 use report::report;
+use std::env;
 use std::error::AnyError;
 use std::io::Read;
 
@@ -24,6 +25,9 @@ fn read_text(rt: &LibcRuntime) -> Result<Vec<u8>, AnyError> {
 
 // Proof-reads standard input, and says whether it is accepted.
 fn run(rt: &LibcRuntime) -> Result<bool, AnyError> {
+    if env::args(rt)?.count() > 1 {
+        return Err("takes no arguments, but a profile on standard input: proofread < FILE".into());
+    }
     let text = read_text(rt)?;
     let mut image = vec![in rt.alloc(); 0xffu8; MAX_IMAGE]?;
     let answer = fill(&text, &mut image);

@@ -5,7 +5,7 @@ use native.Mathlib.Omega.{arith}
 use Rattle.std.specs.shelf.Lists.{leading}
 use Rattle.hextext.specs.Digits.{is-digit}
 use Rattle.ihex.specs.declared.fault.Reason.the-variants.{NotADigit}
-use Rattle.ihex.specs.Rules.{fault-at}
+use Rattle.ihex.specs.Faults.{fault-at}
 use Rattle.ihex.proofs.Runs.{run-leading, run-all, run-short, odd-length}
 use Rattle.ihex.proofs.record.unpaired.Needs as need
 

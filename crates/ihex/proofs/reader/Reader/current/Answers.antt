@@ -8,8 +8,8 @@ use Rattle.std.proofs.shelf.Lists.{nil-from-length}
 use Rattle.std.proofs.shelf.Results.{err-from-errBy}
 use Rattle.std.specs.declared.result.Result.the-variants.{Ok, Err}
 use Rattle.hextext.specs.Lines.{line-of, after-line, from-line, line}
-use Rattle.ihex.specs.Rules.{LineRead}
 use Rattle.ihex.specs.Reads.{There}
+use Rattle.ihex.specs.Steps.{LineRead}
 use Rattle.ihex.proofs.Currents.{left-is, read-err, read-ok, after-is, after-more}
 use Rattle.ihex.proofs.reader.Reader.current.Needs as need
 use Rattle.ihex.proofs.reader.Reader.current.Needs.{After-split-line}
