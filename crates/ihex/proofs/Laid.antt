@@ -19,8 +19,7 @@ use Rattle.ihex.specs.declared.survey.Span.{Span}
 use Rattle.ihex.specs.declared.survey.Survey.{Survey}
 use Rattle.ihex.specs.Rules.{bytes, count, place, payload}
 use Rattle.ihex.specs.Reads.{There, Shown}
-use Rattle.ihex.specs.Surveys.{none-noted, lowest-of, Noted}
-use Rattle.ihex.specs.Places.{Put, PutIn}
+use Rattle.ihex.specs.Steps.{none-noted, lowest-of, Noted, Put, PutIn}
 use Rattle.ihex.specs.Files.{floor, Placed, Covers, Shows, Given, total, Spans, Surveyed}
 
 pub record Laid (text : List ℕ) (size n f : ℕ) (s : Survey) (image : List ℕ) : Type 0 where

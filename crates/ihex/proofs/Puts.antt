@@ -10,7 +10,7 @@ use lib.ListN.{length, getD}
 use Rattle.std.proofs.shelf.Lists.{places}
 use Rattle.hextext.specs.Digits.{bytes-of}
 use Rattle.hextext.proofs.Pairs.{length-bytes}
-use Rattle.ihex.specs.Places.{Put}
+use Rattle.ihex.specs.Steps.{Put}
 
 pub put-mid : (image : List ℕ) (from : ℕ) (digits part : List ℕ) (k : ℕ) → k ≡ length digits / 2 → from + k ≤ length image → part ≡ bytes-of digits → Put image from digits (putMid from k image part)
 put-mid image from digits part k size fits is =

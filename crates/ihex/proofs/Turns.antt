@@ -22,7 +22,7 @@ use Rattle.ihex.specs.declared.survey.Survey.{Survey}
 use Rattle.ihex.specs.Rules.{Broken}
 use Rattle.ihex.specs.Faults.{fault, fault-at}
 use Rattle.ihex.specs.Reads.{There, Shown, Next, Moves}
-use Rattle.ihex.specs.Places.{PutIn}
+use Rattle.ihex.specs.Steps.{PutIn}
 use Rattle.ihex.specs.Files.{Placed, Closes, Stops, Refused, Accepted}
 use Rattle.ihex.proofs.Laid.{Laid, half-shown}
 

@@ -2,8 +2,8 @@
 use mathlib.Core.Path.{_≡_}
 use mathlib.Core.List.{List, [], _∷_}
 use mathlib.Core.Logic.{_⊎_}
-use Prim.Native.Nat.{ℕ, _+_, _*_, _%_, _≤_, _<_}
-use lib.ListN.{length, take, drop}
+use Prim.Native.Nat.{ℕ, _+_, _-_, _*_, _/_, _%_, _≤_, _<_}
+use lib.ListN.{length, getD, take, drop}
 use Rattle.std.specs.shelf.Lists.{leading}
 use Rattle.std.specs.declared.option.Option.{Option}
 use Rattle.std.specs.declared.option.Option.the-variants.{Some, None}
@@ -11,11 +11,14 @@ use Rattle.std.specs.declared.result.Result.{Result}
 use Rattle.std.specs.declared.result.Result.the-variants.{Ok, Err}
 use Rattle.hextext.specs.Digits.{is-digit, Digits, bytes-of}
 use Rattle.hextext.specs.Lines.{start}
-use Rattle.ihex.specs.declared.fault.Reason.the-variants.{NotADigit, WrongLength}
+use Rattle.ihex.specs.declared.fault.Reason.{Reason}
+use Rattle.ihex.specs.declared.fault.Reason.the-variants.{NotADigit, WrongLength, OutOfRange, OutOfOrder}
 use Rattle.ihex.specs.declared.fault.HexFault.{HexFault}
 use Rattle.ihex.specs.declared.record.Header.{Header}
 use Rattle.ihex.specs.declared.record.Record.{Record}
 use Rattle.ihex.specs.declared.record.Record.the-variants.{Data, End}
+use Rattle.ihex.specs.declared.survey.Span.{Span}
+use Rattle.ihex.specs.declared.survey.Survey.{Survey}
 use Rattle.ihex.specs.Rules.{count, place, DataLine, EndLine, Broken, offset}
 use Rattle.ihex.specs.Faults.{fault-at}
 use Rattle.ihex.specs.Reads.{Next}
@@ -47,3 +50,28 @@ abbrev pub Current : List ℕ → ℕ → Result (Option (Record × ℕ)) HexFau
 Current text n (Ok None) = Next text n (Ok None)
 Current text n (Ok (Some p)) = Next text n (Ok (Some (p .0))) × (p .1 ≡ start text (n + 1)) × (start text n < p .1) × (p .1 ≤ length text)
 Current text n (Err e) = Next text n (Err e)
+
+-- the bytes that the digits write stand from `from` on, and every other place is as it was
+pub record Put (image : List ℕ) (from : ℕ) (digits after : List ℕ) : Type 0 where
+  pub here : (j : ℕ) → j < length digits / 2 → getD after (from + j) 0 ≡ getD (bytes-of digits) j 0
+  pub elsewhere : (a : ℕ) → (a < from) ⊎ (from + length digits / 2 ≤ a) → getD after a 0 ≡ getD image a 0
+
+abbrev pub PutIn : List ℕ → ℕ → ℕ → List ℕ → Result ℕ Reason → List ℕ → Type 0
+PutIn image floor from digits (Ok end) after =
+    (end ≡ from + length digits / 2) × (end ≤ length image) × (floor ≤ from) × Put image from digits after
+PutIn image floor from digits (Err reason) after =
+    ((reason ≡ OutOfRange) × (length image < from + length digits / 2)) ⊎ ((reason ≡ OutOfOrder) × (from + length digits / 2 ≤ length image) × (from < floor))
+
+-- a survey of no record, and one that has grown by a record
+abbrev pub none-noted : Survey
+none-noted = record { records = 0; bytes = 0; span = None }
+
+abbrev pub lowest-of : Option Span → ℕ → ℕ
+lowest-of (Some s) place = s .lowest
+lowest-of None place = place
+
+pub record Noted (s : Survey) (place count : ℕ) (t : Survey) : Type 0 where
+  pub records : t .records ≡ s .records + 1
+  pub bytes : t .bytes ≡ s .bytes + count
+  pub empty : count ≡ 0 → t .span ≡ s .span
+  pub some : 0 < count → t .span ≡ Some (record { lowest = lowest-of (s .span) place; highest = place + count - 1 })

@@ -5,7 +5,7 @@ ghost use Prim.Native.Nat.{_+_, _*_, _%_, _<_, _≤_};
 ghost use lib.ListN.{length, replicate};
 ghost use Rattle.hextext.specs.Digits.{Digits, bytes-of};
 ghost use Rattle.std.specs.Results.{Cases as ByOk};
-ghost use Rattle.ihex.specs.Places.{PutIn};
+ghost use Rattle.ihex.specs.Steps.{PutIn};
 ghost use Rattle.ihex.specs.Files.{Accepted, Refused, Filled, Sole, Lined};
 use crate::fault::HexFault;
 use crate::fault::Reason;

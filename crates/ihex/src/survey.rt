@@ -1,6 +1,6 @@
 ghost use mathlib.Core.Path.{_≡_};
 ghost use Prim.Native.Nat.{_+_, _^_, _<_, _≤_};
-ghost use Rattle.ihex.specs.Surveys.{none-noted, Noted};
+ghost use Rattle.ihex.specs.Steps.{none-noted, Noted};
 
 // The lowest and the highest place that a text has a byte for.
 #[derive(Clone, Copy, Debug, PartialEq)]
