@@ -1,11 +1,10 @@
 -- Digits, and the pairs that they make.
 use mathlib.Core.Path.{_≡_, refl, sym, ap, subst, _∙_}
-use mathlib.Core.Logic.{_⊎_, inl, inr, ⊎-elim}
-use mathlib.Core.Bool.{Bool, true, false, cond, _&&_}
+use mathlib.Core.Logic.{_⊎_, ⊎-elim}
+use mathlib.Core.Bool.{true, false}
 use mathlib.Core.List.{List, [], _∷_}
-use Prim.Native.Nat.{ℕ, _+_, _-_, _*_, _%_, _/_, _≤_, _<_, zero, suc}
+use Prim.Native.Nat.{ℕ, _-_, _*_, _/_, _≤_, _<_, zero, suc}
 use native.Mathlib.Omega.{arith}
-use lib.Dec.{eqb, ltb, leb}
 use lib.ListN.{length, getD, drop, take}
 use Rattle.std.specs.Options.{isSome, valueOr}
 use Rattle.std.specs.Text.{within}

@@ -8,10 +8,9 @@ use native.Mathlib.Numerals.{one-add}
 use native.Mathlib.Omega.{arith}
 use lib.Dec.{eqb, ltb}
 use lib.ListN.{length, getD, take, drop}
-use Rattle.std.specs.shelf.Lists.{All, leading, between}
-use Rattle.std.proofs.shelf.Lists.{append-assoc, append-nil, take-append-drop, drop-more, take-more, take-all, take-rest, nil-from-length, length-take-le, length-take, drop-all, getD-past, take-at, drop-at, length-append, length-push, getD-push}
+use Rattle.std.specs.shelf.Lists.{All, leading}
+use Rattle.std.proofs.shelf.Lists.{append-assoc, take-append-drop, drop-more, take-more, take-all, take-rest, drop-all, getD-past, take-at, drop-at, length-append, length-push, getD-push}
 use Rattle.std.proofs.shelf.Elements.{all-take, all-weaker, all-push}
-use Rattle.std.proofs.shelf.Sums.{leading-le-length}
 use Rattle.std.proofs.shelf.Tests.{cond-both, cond-true, cond-false, and-right, ne-eqb, le-ltb, not-from-false, and-parts, and-from, ltb-true, ltb-false, lt-ltb, eqb-true, eq-eqb, not-true, both-ways, cases-bool, cases-lt}
 use Rattle.hextext.specs.Lines.{before-feed, chomped, line-of, after-line, Split}
 

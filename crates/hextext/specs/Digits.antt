@@ -4,10 +4,10 @@ use mathlib.Core.Bool.{Bool, true, false, cond}
 use mathlib.Core.List.{List, [], _∷_}
 use Prim.Native.Nat.{ℕ, _+_, _-_, _*_, _<_, _≤_}
 use lib.Dec.{ltb}
-use lib.ListN.{length, getD, drop}
-use Rattle.std.specs.Options.{mapped, isSome, valueOr}
+use lib.ListN.{length, getD}
+use Rattle.std.specs.Options.{isSome, valueOr}
 use Rattle.std.specs.Text.{within}
-use Rattle.std.specs.shelf.Lists.{All, leading}
+use Rattle.std.specs.shelf.Lists.{All}
 use Rattle.std.specs.declared.option.Option.{Option}
 use Rattle.std.specs.declared.option.Option.the-variants.{Some, None}
 

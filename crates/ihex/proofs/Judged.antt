@@ -1,7 +1,7 @@
 -- What a line's header and digits say of its rules.
 use mathlib.Core.Path.{_≡_, refl, sym, ap, subst, _∙_}
-use mathlib.Core.List.{List, [], _∷_}
-use Prim.Native.Nat.{ℕ, _+_, _-_, _*_, _%_, _≤_, _<_}
+use mathlib.Core.List.{List, _∷_}
+use Prim.Native.Nat.{ℕ, _+_, _-_, _*_, _%_, _<_}
 use mathlib.Core.Logic.{⊎-elim}
 use native.Mathlib.Nat.{add-zero}
 use native.Mathlib.Omega.{arith}
@@ -13,7 +13,7 @@ use Rattle.std.specs.declared.result.Result.the-variants.{Err}
 use Rattle.ihex.specs.declared.fault.Reason.{Reason}
 use Rattle.ihex.specs.declared.fault.HexFault.{HexFault}
 use Rattle.ihex.specs.declared.record.Header.{Header}
-use Rattle.ihex.specs.Rules.{bytes, count, place, kind, Colon, Spelt, Sized, Summed, Formed, DataLine, EndLine, Broken, offset}
+use Rattle.ihex.specs.Rules.{bytes, count, place, kind, Colon, Spelt, Sized, Formed, Broken, offset}
 use Rattle.ihex.specs.Steps.{Headed, Unpaired, LineRead}
 use Rattle.ihex.specs.Faults.{fault-at}
 

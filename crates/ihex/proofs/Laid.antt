@@ -1,14 +1,14 @@
 -- The lines that are read so far, and the image that shows them.
 use mathlib.Core.Path.{_≡_, refl, sym, ap, subst, _∙_}
 use mathlib.Core.Logic.{_⊎_, inl, inr, ⊎-elim}
-use mathlib.Core.List.{List, []}
-use Prim.Native.Nat.{ℕ, zero, suc, _+_, _-_, _*_, _/_, _%_, _≤_, _<_}
+use mathlib.Core.List.{List}
+use Prim.Native.Nat.{ℕ, zero, suc, _+_, _-_, _*_, _/_, _≤_, _<_}
 use native.Mathlib.Numerals.{add-one}
 use native.Mathlib.Omega.{arith}
 use lib.ListN.{length, getD, take, drop, replicate, length-drop}
 use Rattle.std.proofs.shelf.Lists.{getD-replicate, drop-drop, length-take-le}
 use Rattle.std.proofs.shelf.Elements.{all-take, all-drop}
-use Rattle.std.proofs.shelf.Tests.{cases-lt, cases-order, cases-eq}
+use Rattle.std.proofs.shelf.Tests.{cases-lt, cases-order}
 use Rattle.std.specs.declared.option.Option.{Option}
 use Rattle.std.specs.declared.option.Option.the-variants.{Some, None}
 use Rattle.std.specs.declared.result.Result.the-variants.{Ok}
@@ -18,8 +18,8 @@ use Rattle.hextext.proofs.Pairs.{bytes-drop, bytes-take}
 use Rattle.ihex.specs.declared.survey.Span.{Span}
 use Rattle.ihex.specs.declared.survey.Survey.{Survey}
 use Rattle.ihex.specs.Rules.{bytes, count, place, payload}
-use Rattle.ihex.specs.Reads.{There, Shown}
-use Rattle.ihex.specs.Steps.{none-noted, lowest-of, Noted, Put, PutIn}
+use Rattle.ihex.specs.Reads.{Shown}
+use Rattle.ihex.specs.Steps.{none-noted, lowest-of, Noted, PutIn}
 use Rattle.ihex.specs.Files.{floor, Placed, Covers, Shows, Given, total, Spans, Surveyed}
 
 pub record Laid (text : List ℕ) (size n f : ℕ) (s : Survey) (image : List ℕ) : Type 0 where

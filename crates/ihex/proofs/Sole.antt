@@ -5,7 +5,7 @@ use mathlib.Core.List.{List, [], _∷_}
 use Prim.Native.Nat.{ℕ, zero, suc, _+_, _-_, _≤_, _<_}
 use native.Mathlib.Nat.{le-of-suc-le-suc, not-suc-le-zero}
 use native.Mathlib.Omega.{arith}
-use lib.ListN.{length, getD, take, replicate}
+use lib.ListN.{length, getD, take}
 use Rattle.std.proofs.shelf.Lists.{ext-getD}
 use Rattle.std.proofs.shelf.Tests.{cases-lt, cases-order}
 use Rattle.std.specs.declared.option.Option.{Option}
@@ -18,7 +18,7 @@ use Rattle.ihex.specs.declared.fault.Reason.the-variants.{MissingColon, NotADi
 use Rattle.ihex.specs.declared.fault.HexFault.{HexFault}
 use Rattle.ihex.specs.declared.survey.Span.{Span}
 use Rattle.ihex.specs.declared.survey.Survey.{Survey}
-use Rattle.ihex.specs.Rules.{count, place, payload, Colon, Spelt, Sized, Summed, DataLine, EndLine}
+use Rattle.ihex.specs.Rules.{count, place, Colon, Spelt, Sized, Summed, DataLine, EndLine}
 use Rattle.ihex.specs.Faults.{fault}
 use Rattle.ihex.specs.Reads.{There}
 use Rattle.ihex.specs.Files.{floor, Placed, Closes, Covers, Shows, Given, Spans, Surveyed, Stops, Accepted, Refused, Read, Filled}

@@ -9,7 +9,7 @@ use denote.Ref.{RefT}
 use lib.ListN.{length}
 use Rattle.std.proofs.shelf.Lists.{nil-from-length}
 use Rattle.std.specs.declared.option.Option.{Option}
-use Rattle.std.specs.declared.option.Option.the-variants.{Some, None}
+use Rattle.std.specs.declared.option.Option.the-variants.{Some}
 use Rattle.std.specs.declared.result.Result.the-variants.{Ok, Err}
 use Rattle.hextext.specs.Lines.{from-line, line, start}
 use Rattle.hextext.proofs.Froms.{from-length, after-shorter}
@@ -23,7 +23,7 @@ use Rattle.ihex.specs.Rules.{Broken}
 use Rattle.ihex.specs.Faults.{fault, fault-at}
 use Rattle.ihex.specs.Reads.{There, Shown, Next, Moves}
 use Rattle.ihex.specs.Steps.{PutIn}
-use Rattle.ihex.specs.Files.{Placed, Closes, Stops, Refused, Accepted}
+use Rattle.ihex.specs.Files.{Closes, Stops, Refused, Accepted}
 use Rattle.ihex.proofs.Laid.{Laid, half-shown}
 
 -- the reader holds `held`, which is the text

@@ -1,6 +1,6 @@
 -- One line of Intel HEX: what it holds, and the rules that it keeps or breaks, in the order in which they are judged.
 use mathlib.Core.Path.{_≡_}
-use mathlib.Core.List.{List, [], _∷_}
+use mathlib.Core.List.{List}
 use Prim.Native.Nat.{ℕ, _+_, _*_, _%_, _≤_}
 use lib.ListN.{length, getD, take, drop}
 use Rattle.std.specs.shelf.Lists.{sum, leading}

@@ -1,7 +1,6 @@
 ghost use mathlib.Core.Path.{_≡_};
-ghost use mathlib.Core.List.{_∷_};
 ghost use Prim.Native.Nat.{_+_, _*_, _%_, _^_, _<_};
-ghost use lib.ListN.{length, drop};
+ghost use lib.ListN.{length};
 ghost use Rattle.std.specs.Options.{Cases as BySome};
 ghost use Rattle.std.specs.shelf.Lists.{sum};
 ghost use Rattle.hextext.specs.Digits.{bytes-of};
@@ -12,7 +11,7 @@ use hextext::digit_run;
 use hextext::take_byte;
 
 // What a line says: bytes for a place, as the digits that write them, or that the text ends.
-#[derive(Clone, Copy, Debug, PartialEq)]
+#[derive(Clone, Copy, Debug)]
 pub enum Record<'a> {
     Data { place: u16, digits: &'a [u8] },
     End,

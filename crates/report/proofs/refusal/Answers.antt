@@ -1,4 +1,4 @@
-use mathlib.Core.Path.{_≡_, ap, _∙_}
+use mathlib.Core.Path.{ap, _∙_}
 use Rattle.std.proofs.shelf.Results.{made-weaker}
 use Rattle.ihex.specs.Faults.{refusal-number}
 use Rattle.report.specs.Words.{refusal-lines}

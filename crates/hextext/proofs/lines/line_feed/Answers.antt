@@ -1,9 +1,7 @@
-use mathlib.Core.Path.{_≡_, sym, ap, _∙_}
-use mathlib.Core.List.{map}
-use Prim.Native.Nat.{ℕ, _+_, _-_, _≤_}
+use mathlib.Core.Path.{ap, _∙_}
+use Prim.Native.Nat.{_-_, _≤_}
 use native.Mathlib.Omega.{arith}
 use lib.Dec.{eqb}
-use lib.Lanes.{maskL}
 use lib.ListN.{length, take, drop, length-drop}
 use mir.Syntax.{w8}
 use Rattle.std.proofs.shelf.Lanes.{bitmask-splat}

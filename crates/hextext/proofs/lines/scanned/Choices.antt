@@ -1,7 +1,5 @@
 use mathlib.Core.Path.{_≡_}
-use mathlib.Core.Bool.{not}
 use Prim.Native.Nat.{_+_}
-use lib.Dec.{eqb}
 use lib.ListN.{drop}
 use Rattle.hextext.specs.Lines.{before-feed}
 use Rattle.hextext.proofs.lines.scanned.Given as given

@@ -1,4 +1,4 @@
-use mathlib.Core.Path.{_≡_, refl, sym, ap, subst, _∙_}
+use mathlib.Core.Path.{_≡_, ap, subst, _∙_}
 use Prim.Native.Nat.{_+_}
 use native.Mathlib.Omega.{arith}
 use denote.Ref.{now}
@@ -10,7 +10,7 @@ use Rattle.hextext.specs.Lines.{start}
 use Rattle.ihex.specs.declared.record.Record.the-variants.{Data, End}
 use Rattle.ihex.specs.Reads.{Shown, Next}
 use Rattle.ihex.specs.Files.{Closes}
-use Rattle.ihex.proofs.Laid.{laid-none, laid-more, total-below, length-shown, half-shown, digits-shown}
+use Rattle.ihex.proofs.Laid.{laid-none, laid-more, total-below, length-shown, digits-shown}
 use Rattle.ihex.proofs.Turns.{shown-of, closes-of, moved-of, start-less, refused-line, refused-none, refused-put, refused-more, accepted}
 use Rattle.ihex.proofs.image.place_all.Needs as need
 use Rattle.ihex.proofs.image.place_all.Needs.{In-Some-Data, In-Some-End}

@@ -1,11 +1,11 @@
 use mathlib.Core.Path.{_≡_, ap, _∙_}
 use native.Mathlib.Omega.{arith}
-use Prim.Native.Nat.{_-_, _≤_}
+use Prim.Native.Nat.{_-_}
 use lib.ListN.{length, length-drop}
 use Rattle.std.specs.shelf.Lists.{sum}
 use Rattle.std.proofs.shelf.Sums.{sumBy-cons}
 use Rattle.hextext.specs.Digits.{bytes-of}
-use Rattle.hextext.proofs.Pairs.{front-some, front-none, bytes-front, digits-front, digits-after}
+use Rattle.hextext.proofs.Pairs.{front-some, bytes-front, digits-front, digits-after}
 use Rattle.ihex.proofs.record.pair_sum.Needs as need
 
 pub pairs-again : need.pairs-again

@@ -1,15 +1,9 @@
-use mathlib.Core.Path.{_≡_, refl, sym, ap, subst, _∙_}
-use mathlib.Core.Logic.{⊎-elim}
-use Prim.Native.Nat.{_+_, _*_}
-use native.Mathlib.Nat.{add-zero}
+use mathlib.Core.Path.{refl}
 use native.Mathlib.Omega.{arith}
-use lib.ListN.{length}
 use borrow.Author.Tests.{ltb-true}
-use Rattle.std.specs.declared.result.Result.the-variants.{Err}
 use Rattle.std.proofs.shelf.Lists.{take-rest, getD-past}
 use Rattle.ihex.specs.declared.fault.Reason.the-variants.{MissingColon, WrongLength, WrongSum, UnknownType}
 use Rattle.ihex.specs.Rules.{Colon, Formed}
-use Rattle.ihex.specs.Steps.{LineRead}
 use Rattle.ihex.proofs.Judged.{broken-read, spelt-is, short, missized, sized-is, summed-is, formed, count-is, kind-is, place-is, digits-are, unpaired-read}
 use Rattle.ihex.proofs.record.read_record.Needs as need
 use Rattle.ihex.proofs.record.read_record.Needs.{In-58, Else-sum-ne0, in-rest·by·then-line-lt1, in-rest·by·else-line-lt1·in-rest·, in-rest-kind·by·in-1·else-header-eq0, in-rest-kind·by·in-rest·}

@@ -1,6 +1,3 @@
-use mathlib.Core.Path.{_≡_, ap, _∙_}
-use mathlib.Core.List.{List, _∷_}
-use Prim.Native.Nat.{ℕ}
 use native.Mathlib.Omega.{arith}
 use Rattle.ihex.proofs.Heads.{outset, onward, stuck}
 use Rattle.ihex.proofs.record.take_header.Needs as need
