@@ -37,10 +37,20 @@ line text n = line-of (from-line text n)
 abbrev pub start : List ℕ → ℕ → ℕ
 start text n = length text - length (from-line text n)
 
--- the first line of xs has no LF in it, and ends in LF, in CR LF, or where xs does; what follows is the rest
+-- the ways in which a line ends, with what then follows it in xs
+abbrev pub EndsInFeed : List ℕ → List ℕ → List ℕ → Type 0
+EndsInFeed xs line rest = (xs ≡ line ++ (10 ∷ rest)) × (getD line (length line - 1) 0 ≡ 13 → ⊥)
+
+abbrev pub EndsInReturnFeed : List ℕ → List ℕ → List ℕ → Type 0
+EndsInReturnFeed xs line rest = xs ≡ line ++ (13 ∷ (10 ∷ rest))
+
+abbrev pub EndsWithText : List ℕ → List ℕ → List ℕ → Type 0
+EndsWithText xs line rest = (xs ≡ line) × (rest ≡ [])
+
+-- the first line of xs, which has no LF in it, and what follows it
 pub record Split (xs line rest : List ℕ) : Type 0 where
   pub unbroken : All (λ b. b ≡ 10 → ⊥) line
-  pub ended : ((xs ≡ line ++ (10 ∷ rest)) × (getD line (length line - 1) 0 ≡ 13 → ⊥)) ⊎ ((xs ≡ line ++ (13 ∷ (10 ∷ rest))) ⊎ ((xs ≡ line) × (rest ≡ [])))
+  pub ended : EndsInFeed xs line rest ⊎ (EndsInReturnFeed xs line rest ⊎ EndsWithText xs line rest)
 
 -- no other split of xs is one
 abbrev pub OnlySplit : List ℕ → List ℕ → List ℕ → Type 0
