@@ -40,6 +40,12 @@ holds-at (P ∷ Ps) (suc i) zero h x = absurd (not-suc-le-zero h)
 holds-at (P ∷ Ps) zero (suc j) h x = x .0
 holds-at (P ∷ Ps) (suc i) (suc j) h x = holds-at Ps i j (le-of-suc-le-suc h) (x .1)
 
+holds-any : (L : List (Type 0)) (i : ℕ) → Holds L → getD L i (Unit {0})
+unfolding Holds
+holds-any [] i x = tt
+holds-any (P ∷ Ps) zero x = x .0
+holds-any (P ∷ Ps) (suc i) x = holds-any Ps i (x .1)
+
 fails-once : (L : List (Type 0)) (i j : ℕ) → Fails i L → Fails j L → i ≡ j
 unfolding Fails
 fails-once L i j f g =
@@ -126,17 +132,8 @@ module _ (text : List ℕ) (size : ℕ) where
 
   -- whoever keeps all of them fails none
   fails-none : (r : Reason) (n : ℕ) → Stops r text size n → Holds (rules n) → ⊥
-  unfolding Fails rank rules
-  fails-none TooLong n s h = s
-  fails-none MissingEnd n s h = fails MissingEnd n s .1 (holds-at (rules n) 0 9 (omega arith) h)
-  fails-none MissingColon n s h = fails MissingColon n s .1 (holds-at (rules n) 1 9 (omega arith) h)
-  fails-none NotADigit n s h = fails NotADigit n s .1 (holds-at (rules n) 2 9 (omega arith) h)
-  fails-none WrongLength n s h = fails WrongLength n s .1 (holds-at (rules n) 3 9 (omega arith) h)
-  fails-none WrongSum n s h = fails WrongSum n s .1 (holds-at (rules n) 4 9 (omega arith) h)
-  fails-none UnknownType n s h = fails UnknownType n s .1 (holds-at (rules n) 5 9 (omega arith) h)
-  fails-none OutOfRange n s h = fails OutOfRange n s .1 (holds-at (rules n) 6 9 (omega arith) h)
-  fails-none OutOfOrder n s h = fails OutOfOrder n s .1 (holds-at (rules n) 7 9 (omega arith) h)
-  fails-none AfterEnd n s h = fails AfterEnd n s .1 (holds-at (rules n) 8 9 (omega arith) h)
+  unfolding Fails
+  fails-none r n s h = fails r n s .1 (holds-any (rules n) (rank r) h)
 
   -- two readings stop at the same line
   same-line : (n m : ℕ) → ((k : ℕ) → k < n → Placed text size k) → (Placed text size n → ⊥) → ((k : ℕ) → k < m → Placed text size k) → (Placed text size m → ⊥) → n ≡ m
