@@ -140,16 +140,18 @@ static void agree(unsigned rounds)
     printf(" 0 being accepted\n");
 }
 
+/* with a folder, compares answers too and leaves the texts there */
 int main(int argc, char **argv)
 {
-    const char *folder = argc > 1 ? argv[1] : ".";
-    agree(1000000);
+    const char *folder = argc > 1 ? argv[1] : NULL;
+    if (folder)
+        agree(1000000);
     size_t length = make(16, 0);
     compare("16 bytes to a line, image full", length);
-    if (!keep(folder, "full.hex", length))
+    if (folder && !keep(folder, "full.hex", length))
         return 1;
     compare("255 bytes to a line, image full", make(255, 0));
     length = make(1, LIMIT);
     compare("1 byte to a line, then none, 1 MiB", length);
-    return keep(folder, "long.hex", length) ? 0 : 1;
+    return folder && !keep(folder, "long.hex", length) ? 1 : 0;
 }
