@@ -28,6 +28,13 @@ pub record Paired (digits : List ℕ) : Type 0 where
   pub spelt : Digits digits
   pub even : length digits % 2 ≡ 0
 
+-- the first byte that pairs of digits write, and the pairs after it
+pub record Taken (digits : List ℕ) (byte : ℕ) (rest : List ℕ) : Type 0 where
+  pub paired : Paired rest
+  pub size : length rest + 2 ≡ length digits
+  pub bytes : bytes-of digits ≡ byte ∷ bytes-of rest
+  pub rest-is : rest ≡ drop 2 digits
+
 -- the first four bytes, and the digits after them
 pub record Headed (digits : List ℕ) (header : Header) (rest : List ℕ) : Type 0 where
   pub bytes : (high : ℕ) × (low : ℕ) × (bytes-of digits ≡ header .count ∷ (high ∷ (low ∷ (header .kind ∷ bytes-of rest)))) × (header .place ≡ high * 256 + low)

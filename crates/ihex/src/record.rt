@@ -4,7 +4,7 @@ ghost use lib.ListN.{length};
 ghost use Rattle.std.specs.Options.{Cases as BySome};
 ghost use Rattle.std.specs.shelf.Lists.{sum};
 ghost use Rattle.hextext.specs.Digits.{bytes-of};
-ghost use Rattle.ihex.specs.Steps.{Paired, Headed, Unpaired, LineRead};
+ghost use Rattle.ihex.specs.Steps.{Paired, Taken, Headed, Unpaired, LineRead};
 use crate::fault::HexFault;
 use crate::fault::Reason;
 use hextext::digit_run;
@@ -38,15 +38,23 @@ struct Header {
     kind: u8,
 }
 
-// The header at the front of pairs of digits, and the digits after it.
+// The first byte of pairs of digits, and the pairs after it; none only where there are none.
+fn next_byte<'a>(digits: &'a [u8]) -> Option<(u8, &'a [u8])>
+    requires { ⌜ Paired (now digits) ⌝ }
+    ensures { λ r. ⌜ BySome r (length (now (digits .entry)) ≡ 0) (λ p. Taken (now (digits .entry)) (p .0) (now (p .1))) ⌝ }
+{
+    take_byte(digits)
+}
+
+// The header at the front of pairs of digits, and the pairs after it.
 fn take_header<'a>(digits: &'a [u8]) -> Option<(Header, &'a [u8])>
     requires { ⌜ Paired (now digits) ⌝ }
     ensures { λ r. ⌜ BySome r (length (now (digits .entry)) < 8) (λ p. Headed (now (digits .entry)) (p .0) (now (p .1))) ⌝ }
 {
-    let (count, rest) = take_byte(digits)?;
-    let (high, rest) = take_byte(rest)?;
-    let (low, rest) = take_byte(rest)?;
-    let (kind, rest) = take_byte(rest)?;
+    let (count, rest) = next_byte(digits)?;
+    let (high, rest) = next_byte(rest)?;
+    let (low, rest) = next_byte(rest)?;
+    let (kind, rest) = next_byte(rest)?;
     let place = high as u16 * 256 + low as u16;
     Some((Header { count, place, kind }, rest))
 }
