@@ -1,4 +1,6 @@
 // A 28F256 behind its bus: six operations, what they mean, and the rules that they keep.
+#![tactic(auto)]
+
 mod bus;
 pub mod command;
 mod runs;

@@ -1,8 +1,8 @@
 -- Where the lines of a text stand.
-use Rattle.std.proofs.Common.{◌≡◌, ℕ, zero, suc, ◌+◌, ◌-◌, ◌<◌, ◌≤◌, ◌⊎◌, List, length, take, drop, sym, refl, ap, ◌∙◌, ⊎_elim, arith, length-drop}
+use Rattle.std.proofs.Common.{◌≡◌, ℕ, zero, suc, ◌+◌, ◌-◌, ◌<◌, ◌≤◌, List, length, take, drop, sym, refl, ap, ◌∙◌, ⊎_elim, arith, length-drop}
 use Rattle.std.proofs.lemmas.List.{take_rest, take_at, take-take, drop-take, drop-drop, drop_all, take_all, nil_from_length}
 use Rattle.std.proofs.lemmas.Bool.{cases_lt}
-use Rattle.hextext.specs.Lines.{before_feed, line_of, after_line, from_line, line, start}
+use Rattle.hextext.specs.Lines.{before_feed, line_of, after_line, from_line, start}
 use Rattle.hextext.proofs.Splits.{splits}
 
 pub after_shorter : (xs : List ℕ) → 0 < length xs → length (after_line xs) < length xs

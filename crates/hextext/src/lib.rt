@@ -1,4 +1,6 @@
 // What texts made of hexadecimal digits share: digits, pairs of them, and lines.
+#![tactic(auto)]
+
 mod digits;
 mod lines;
 mod table;

@@ -1,4 +1,4 @@
-use Rattle.std.proofs.Common.{◌-◌, ◌≤◌, eqb, length, take, drop, ap, ◌∙◌, arith, length-drop, w8}
+use Rattle.std.proofs.Common.{◌≤◌, eqb, length, take, drop, ap, ◌∙◌, arith, length-drop, w8}
 use Rattle.std.proofs.lemmas.Simd.{bitmask_splat}
 use Rattle.std.proofs.lemmas.List.{take_rest, length-take-le, drop-drop}
 use Rattle.hextext.specs.Lines.{before_feed}
