@@ -15,33 +15,33 @@ records-init c = (
   rw (c.new-reader.ensures.line, c.empty-survey.ensures) (laid_none c.args.text.now c.args.image.now c.requires.1.1),
 )
 
-pub returns-in-err-place : goal.returns-in-err-place
-returns-in-err-place c =
+pub returns-in_err-place : goal.returns-in_err-place
+returns-in_err-place c =
     let inv = c.records.invariant in
-    let p = err_from_is_err_and c.from-residual.result c.from-residual.ensures.1 in
-    let e = c.in-err-place.field-0.0 in
-    rw (p.1, p.2) (refused_line c.args.text.now (length c.args.image.now) c.records.reader.line c.records.floor c.records.survey c.records.image inv.1 c.records.reader.text.now e inv.0 c.in-err-place.ensures.answer)
+    let p = err_from_is_err_and c.from_residual.result c.from_residual.ensures.1 in
+    let e = c.in_err-place.field-0.0 in
+    rw (p.1, p.2) (refused_line c.args.text.now (length c.args.image.now) c.records.reader.line c.records.floor c.records.survey c.records.image inv.1 c.records.reader.text.now e inv.0 c.in_err-place.ensures.answer)
 
 -- at a data record
-is_data : (c : In-Some-Data) → c.in-ok-place.field-0 ≡ Some (Data c.in-Some-Data.place c.in-Some-Data.digits)
+is_data : (c : In-Some-Data) → c.in_ok-place.field-0 ≡ Some (Data c.in-Some-Data.place c.in-Some-Data.digits)
 is_data c = cc
 
 shown : (c : In-Some-Data) → Shown c.args.text.now c.records.reader.line c.in-Some-Data.place c.in-Some-Data.digits.now
 shown c =
-    shown_of c.records.reader.text.now c.args.text.now c.records.reader.line c.in-ok-place.field-0 c.records.invariant.0 c.in-ok-place.ensures.answer c.in-Some-Data.place c.in-Some-Data.digits (is_data c)
+    shown_of c.records.reader.text.now c.args.text.now c.records.reader.line c.in_ok-place.field-0 c.records.invariant.0 c.in_ok-place.ensures.answer c.in-Some-Data.place c.in-Some-Data.digits (is_data c)
 
 moved : (c : In-Some-Data) → c.next.new.self.line ≡ c.records.reader.line + 1
-moved c = moved_of c.records.reader.line _ c.in-ok-place.field-0 _ (is_data c) c.in-ok-place.ensures.moves
+moved c = moved_of c.records.reader.line _ c.in_ok-place.field-0 _ (is_data c) c.in_ok-place.ensures.moves
 
 same_text : (c : In-Some-Data) → c.next.new.self.text.now ≡ c.args.text.now
-same_text c = ap (λ x. x.now) c.in-ok-place.ensures.same ∙ c.records.invariant.0
+same_text c = ap (λ x. x.now) c.in_ok-place.ensures.same ∙ c.records.invariant.0
 
 -- where the reader stood, and where it stands
 stood : (c : In-Some-Data) → c.records.reader.position ≡ start c.args.text.now c.records.reader.line
 stood c = c.records.reader.at ∙ ap (λ t. start t c.records.reader.line) c.records.invariant.0
 
 stands : (c : In-Some-Data) → c.next.new.self.position ≡ start c.args.text.now (c.records.reader.line + 1)
-stands c = c.in-ok-place.ensures.stands ∙ ap (λ t. start t c.next.new.self.line) (same_text c) ∙ ap (start c.args.text.now) (moved c)
+stands c = c.in_ok-place.ensures.stands ∙ ap (λ t. start t c.next.new.self.line) (same_text c) ∙ ap (start c.args.text.now) (moved c)
 
 pub put-requires : goal.put-requires
 put-requires c =
@@ -80,17 +80,17 @@ returns-in-Err c =
     refused_put c.args.text.now (length c.args.image.now) c.records.reader.line c.records.floor c.records.survey c.records.image c.records.invariant.1 c.in-Some-Data.place c.records.reader.position c.in-Some-Data.digits.now c.put.new.image c.in-Err.reason c.at.result (shown at) (stood at) c.in-Err.ensures c.at.ensures
 
 -- at an end record
-is_end : (c : In-Some-End) → c.in-ok-place.field-0 ≡ Some End
+is_end : (c : In-Some-End) → c.in_ok-place.field-0 ≡ Some End
 is_end c = cc
 
 closes : (c : In-Some-End) → Closes c.args.text.now c.records.reader.line
-closes c = closes_of c.records.reader.text.now c.args.text.now c.records.reader.line c.in-ok-place.field-0 c.records.invariant.0 c.in-ok-place.ensures.answer (is_end c)
+closes c = closes_of c.records.reader.text.now c.args.text.now c.records.reader.line c.in_ok-place.field-0 c.records.invariant.0 c.in_ok-place.ensures.answer (is_end c)
 
 ended : (c : In-Some-End) → c.next.new.self.line ≡ c.records.reader.line + 1
-ended c = moved_of c.records.reader.line _ c.in-ok-place.field-0 _ (is_end c) c.in-ok-place.ensures.moves
+ended c = moved_of c.records.reader.line _ c.in_ok-place.field-0 _ (is_end c) c.in_ok-place.ensures.moves
 
 ends : (c : In-Some-End) → c.next.new.self.position ≡ start c.args.text.now c.next.new.self.line
-ends c = c.in-ok-place.ensures.stands ∙ ap (λ t. start t c.next.new.self.line) (ap (λ x. x.now) c.in-ok-place.ensures.same ∙ c.records.invariant.0)
+ends c = c.in_ok-place.ensures.stands ∙ ap (λ t. start t c.next.new.self.line) (ap (λ x. x.now) c.in_ok-place.ensures.same ∙ c.records.invariant.0)
 
 pub returns-then-reader-text : goal.returns-then-reader-text
 returns-then-reader-text c =
@@ -105,5 +105,5 @@ returns-in-Some-End c =
 pub returns-in-None : goal.returns-in-None
 returns-in-None c =
     let inv = c.records.invariant in
-    let none = subst (λ o. Next c.records.reader.text.now c.records.reader.line (Ok o)) c.in-None.is c.in-ok-place.ensures.answer in
+    let none = subst (λ o. Next c.records.reader.text.now c.records.reader.line (Ok o)) c.in-None.is c.in_ok-place.ensures.answer in
     refused_none c.args.text.now (length c.args.image.now) c.records.reader.line c.records.floor c.records.survey c.records.image inv.1 c.records.reader.text.now c.records.reader.position c.at-in-None.result inv.0 none (c.records.reader.at ∙ ap (λ t. start t c.records.reader.line) inv.0) c.at-in-None.ensures

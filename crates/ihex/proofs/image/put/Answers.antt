@@ -7,5 +7,5 @@ returns c = (
   refl,
   omega arith,
   omega arith,
-  Put-put_mid c.args.image.now c.args.place c.args.digits.now c.write-pairs.new.part _ (omega arith) (omega arith) c.write-pairs.ensures,
+  Put-put_mid c.args.image.now c.args.place c.args.digits.now c.write_pairs.new.part _ (omega arith) (omega arith) c.write_pairs.ensures,
 )

@@ -5,12 +5,12 @@ use Rattle.ihex.proofs.record.take_header.Goals as goal
 pub returns : goal.returns
 returns c =
     let digits = c.args.digits.now in
-    let first = c.in-ok-count.ensures in
-    let second = c.in-ok-high.ensures in
-    let third = c.in-ok-low.ensures in
-    let fourth = c.in-ok-kind.ensures in
+    let first = c.in_ok-count.ensures in
+    let second = c.in_ok-high.ensures in
+    let third = c.in_ok-low.ensures in
+    let fourth = c.in_ok-kind.ensures in
     record {
-      bytes = (c.in-ok-high.high, c.in-ok-low.low, (cc), refl);
+      bytes = (c.in_ok-high.high, c.in_ok-low.low, (cc), refl);
       long = omega arith;
       rest_is = dropped 6 digits _ _ (dropped 4 digits _ _ (dropped 2 digits _ _ first.rest_is second.rest_is) third.rest_is) fourth.rest_is;
     }

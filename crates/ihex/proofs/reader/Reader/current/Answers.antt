@@ -6,48 +6,48 @@ use Rattle.ihex.specs.Reads.{There}
 use Rattle.ihex.specs.Steps.{LineRead}
 use Rattle.ihex.proofs.Currents.{left_is, read_err, read_ok, after_is, after_more}
 use Rattle.ihex.proofs.reader.Reader.current.Goals as goal
-use Rattle.ihex.proofs.reader.Reader.current.Goals.{After-split-line}
+use Rattle.ihex.proofs.reader.Reader.current.Goals.{After-split_line}
 
-pub returns-then-is-empty : goal.returns-then-is-empty
-returns-then-is-empty c =
+pub returns-then-is_empty : goal.returns-then-is_empty
+returns-then-is_empty c =
     let self = c.args.self.now in
     let e = left_is self.text.now self.line self.position self.at in
-    nil_from_length _ (ap length (sym e) ∙ true-eqb _ 0 c.if-is-empty.ensures)
+    nil_from_length _ (ap length (sym e) ∙ true-eqb _ 0 c.if-is_empty.ensures)
 
 -- past the test that something is left
-there : (c : After-split-line) → There c.args.self.now.text.now c.args.self.now.line
+there : (c : After-split_line) → There c.args.self.now.text.now c.args.self.now.line
 there c =
     let self = c.args.self.now in
     let e = ap length (left_is self.text.now self.line self.position self.at) in
-    let some = false-eqb _ 0 c.if-is-empty.ensures in
+    let some = false-eqb _ 0 c.if-is_empty.ensures in
     omega arith
 
-line_is : (c : After-split-line) → c.split-line.result.0.now ≡ line c.args.self.now.text.now c.args.self.now.line
-line_is c = let self = c.args.self.now in c.split-line.ensures.line ∙ ap line_of (left_is self.text.now self.line self.position self.at)
+line_is : (c : After-split_line) → c.split_line.result.0.now ≡ line c.args.self.now.text.now c.args.self.now.line
+line_is c = let self = c.args.self.now in c.split_line.ensures.line ∙ ap line_of (left_is self.text.now self.line self.position self.at)
 
-rest_is : (c : After-split-line) → c.split-line.result.1.now ≡ after_line (from_line c.args.self.now.text.now c.args.self.now.line)
-rest_is c = let self = c.args.self.now in c.split-line.ensures.rest ∙ ap after_line (left_is self.text.now self.line self.position self.at)
+rest_is : (c : After-split_line) → c.split_line.result.1.now ≡ after_line (from_line c.args.self.now.text.now c.args.self.now.line)
+rest_is c = let self = c.args.self.now in c.split_line.ensures.rest ∙ ap after_line (left_is self.text.now self.line self.position self.at)
 
-pub returns-in-err-record : goal.returns-in-err-record
-returns-in-err-record c =
+pub returns-in_err-record : goal.returns-in_err-record
+returns-in_err-record c =
     let self = c.args.self.now in
-    let p = err_from_is_err_and c.from-residual.result c.from-residual.ensures.1 in
-    let before = (goal.at.returns-in-err-record c).After-split-line in
-    let e = c.in-err-record.field-0.0 in
-    rw (p.1, p.2) (read_err self.text.now self.line self.position self.at e (there before) (subst (λ l. LineRead l (self.line + 1) self.position (Err e)) (line_is before) c.in-err-record.ensures))
+    let p = err_from_is_err_and c.from_residual.result c.from_residual.ensures.1 in
+    let before = (goal.at.returns-in_err-record c).After-split_line in
+    let e = c.in_err-record.field-0.0 in
+    rw (p.1, p.2) (read_err self.text.now self.line self.position self.at e (there before) (subst (λ l. LineRead l (self.line + 1) self.position (Err e)) (line_is before) c.in_err-record.ensures))
 
-pub overflow-sub-result : goal.overflow-sub-result
-overflow-sub-result c =
+pub overflow_sub-result : goal.overflow_sub-result
+overflow_sub-result c =
     let self = c.args.self.now in
-    let before = (goal.at.overflow-sub-result c).After-split-line in
+    let before = (goal.at.overflow_sub-result c).After-split_line in
     (after_more self.text.now self.line self.position self.at _ (there before) (rest_is before)).1
 
 pub returns : goal.returns
 returns c =
     let self = c.args.self.now in
-    let before = (goal.at.returns c).After-split-line in
-    let x = c.in-ok-record.record in (
-      read_ok self.text.now self.line self.position self.at x (there before) (subst (λ l. LineRead l (self.line + 1) self.position (Ok x)) (line_is before) c.in-ok-record.ensures),
+    let before = (goal.at.returns c).After-split_line in
+    let x = c.in_ok-record.record in (
+      read_ok self.text.now self.line self.position self.at x (there before) (subst (λ l. LineRead l (self.line + 1) self.position (Ok x)) (line_is before) c.in_ok-record.ensures),
       after_is self.text.now self.line self.position self.at _ (rest_is before),
       (after_more self.text.now self.line self.position self.at _ (there before) (rest_is before)).0,
       omega arith,
