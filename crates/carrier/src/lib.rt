@@ -1,4 +1,6 @@
 // A carrier crosses the address lines between the station and a chip, and is itself a chip.
+#![tactic(auto)]
+
 mod carrier;
 mod crossing;
 

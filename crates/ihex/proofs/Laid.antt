@@ -8,7 +8,7 @@ use Rattle.hextext.specs.Lines.{line}
 use Rattle.hextext.proofs.Pairs.{bytes_drop, bytes_take}
 use Rattle.ihex.specs.declared.survey.Span.{Span}
 use Rattle.ihex.specs.declared.survey.Survey.{Survey}
-use Rattle.ihex.specs.Rules.{bytes, count, place, payload}
+use Rattle.ihex.specs.Rules.{count, place, payload}
 use Rattle.ihex.specs.Reads.{Shown}
 use Rattle.ihex.specs.Steps.{none_noted, lowest_of, Noted, PutIn}
 use Rattle.ihex.specs.Files.{floor, Placed, Covers, Shows, Given, total, Spans, Surveyed}

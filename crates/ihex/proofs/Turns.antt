@@ -1,5 +1,5 @@
 -- What each answer of the reader means for the text as a whole.
-use Rattle.std.proofs.Common.{◌≡◌, ℕ, suc, ◌+◌, ◌-◌, ◌<◌, ◌≤◌, List, [], length, Some, Ok, Err, Option, sym, refl, ap, ◌∙◌, subst, ⊎_elim, add-one, arith, Bor}
+use Rattle.std.proofs.Common.{◌≡◌, ℕ, suc, ◌+◌, ◌<◌, ◌≤◌, List, [], length, Some, Ok, Err, Option, sym, refl, ap, ◌∙◌, subst, ⊎_elim, add-one, arith, Bor}
 use Rattle.std.proofs.lemmas.List.{nil_from_length}
 use Rattle.hextext.specs.Lines.{from_line, line, start}
 use Rattle.hextext.proofs.Froms.{from_length, after_shorter}

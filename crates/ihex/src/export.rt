@@ -1,11 +1,10 @@
-// The library as C sees it: a slice is passed as a pointer and a length.
+// The reader for callers that take a number alone: crate `ihex_c` hands it to C.
 ghost use Rattle.ihex.specs.Files.{FilledByNumber};
 
 use crate::image::fill;
 
 // Reads a text into an image, as `fill` does, and answers 0, or the refusal's number.
-#[unsafe(no_mangle)]
-pub extern "C" fn ihex_fill(text: &[u8], image: &mut [u8]) -> u8
+pub fn ihex_fill(text: &[u8], image: &mut [u8]) -> u8
     ensures { FilledByNumber text.now image.old result image.new }
 {
     match fill(text, image) {

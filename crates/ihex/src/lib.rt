@@ -1,4 +1,6 @@
 // Reads Intel HEX text into an image.
+#![tactic(auto)]
+
 mod export;
 mod fault;
 mod image;

@@ -1,3 +1,5 @@
+#![tactic(auto)]
+
 // Worked examples of reading, as tests: every refusal with its line and position, and what the image then holds.
 #[cfg(test)]
 mod tests {

@@ -1,4 +1,6 @@
 // The places of a slow chip, and the table that holds them.
+#![tactic(auto)]
+
 mod check;
 mod place;
 mod sizes;

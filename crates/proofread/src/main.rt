@@ -1,9 +1,12 @@
 // Reads a profile in Intel HEX from standard input, and prints a record of what was found in it.
+#![tactic(auto)]
+
 use anyhow::anyhow;
 use ihex::{MAX_IMAGE, MAX_TEXT, fill};
 use report::report;
-use std::env;
 use std::io::Read;
+use std::process::ExitCode;
+use std::{env, io};
 
 // Reads standard input until it ends, or until there is one byte more than a text may have.
 fn read_text(rt: &HostRuntime) -> anyhow::Result<Vec<u8>> {
@@ -37,13 +40,13 @@ fn run(rt: &HostRuntime) -> anyhow::Result<bool> {
     Ok(accepted)
 }
 
-fn main(rt: HostRuntime) -> anyhow::Result<()> {
+fn main(rt: HostRuntime) -> io::Result<ExitCode> {
     match run(&rt) {
-        Ok(true) => Ok(()),
-        Ok(false) => Err(anyhow!("the profile is refused")),
+        Ok(true) => Ok(ExitCode::SUCCESS),
+        Ok(false) => Ok(ExitCode::FAILURE),
         Err(error) => {
             eprintln!(rt; "proofread: {error}")?;
-            Err(error)
+            Ok(ExitCode::FAILURE)
         }
     }
 }

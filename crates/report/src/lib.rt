@@ -1,4 +1,6 @@
 // Words for people: what was found in a profile.
+#![tactic(auto)]
+
 ghost use Rattle.std.specs.Prelude.{◌≡◌, ◌<◌, IfOk, string_bytes};
 ghost use Rattle.report.specs.Words.{sentence_of, hex_digit, four_digits, refusal_text, acceptance_text, report_text};
 

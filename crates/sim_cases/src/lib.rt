@@ -1,4 +1,6 @@
 // Simulated chips driven cycle by cycle, as tests.
+#![tactic(auto)]
+
 ghost use Rattle.std.specs.Prelude.{◌≡◌, [], ◌∷◌, map, length};
 ghost use Rattle.chip.specs.Rules.{Sized, write, read, wait};
 ghost use Rattle.chip.specs.Runs.{Ran};

@@ -1,4 +1,6 @@
 // What every simulated chip keeps besides its cells, and the simplest of them: an empty socket.
+#![tactic(auto)]
+
 mod register;
 mod socket;
 

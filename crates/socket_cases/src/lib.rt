@@ -1,3 +1,5 @@
+#![tactic(auto)]
+
 // Commands, modes, marks and times, on an empty socket, as tests.
 #[cfg(test)]
 mod tests {
