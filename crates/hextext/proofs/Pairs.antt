@@ -3,9 +3,13 @@ use Rattle.std.proofs.Common.{◌≡◌, ℕ, zero, suc, ◌*◌, ◌/◌, ◌<�
 use Rattle.std.specs.Int.{is_in_range}
 use Rattle.std.specs.List.{between}
 use Rattle.std.proofs.lemmas.List.{take_rest}
-use Rattle.std.proofs.ByRecursion.{All-drop, All-get_or}
+use Rattle.std.proofs.lemmas.List.Elements.{All-cons, All-drop, All-get_or}
 use Rattle.std.proofs.lemmas.Bool.{cond_both, cond-true, cond-false, and_parts, leb-true, lt-ltb, le-ltb, cases_lt, false≢true}
 use Rattle.hextext.specs.Digits.{digit_value, is_digit, Coded, Digits, joined, pair, front, bytes_of}
+
+-- a byte that is a digit
+abbrev pub IsDigit : ℕ → Type 0
+IsDigit b = is_digit b ≡ true
 
 -- an option whose value, if it has one, is below 16
 Small : Option ℕ → Type 0
@@ -65,10 +69,10 @@ bytes_front (h ∷ l ∷ t) b ys f = let v = f.value in let r = f.rest in cc
 pub digits_front : (xs : List ℕ) (b : ℕ) (ys : List ℕ) → Front xs b ys → Digits ys → Digits xs
 digits_front [] b ys f d = absurd (omega (arith, f.long))
 digits_front (h ∷ []) b ys f d = absurd (omega (arith, f.long))
-digits_front (h ∷ l ∷ t) b ys f d = (f.high, (f.low, subst Digits f.rest d))
+digits_front (h ∷ l ∷ t) b ys f d = All-cons IsDigit h (l ∷ t) f.high (All-cons IsDigit l t f.low (subst Digits f.rest d))
 
 pub digits_after : (xs : List ℕ) (b : ℕ) (ys : List ℕ) → Front xs b ys → Digits xs → Digits ys
-digits_after xs b ys f d = subst Digits (sym f.rest) (All-drop _ 2 xs d)
+digits_after xs b ys f d = subst Digits (sym f.rest) (All-drop IsDigit 2 xs d)
 
 both_digits : (h l : Option ℕ) → is_some h ≡ true → is_some l ≡ true → is_some (joined h l) ≡ true
 both_digits None l a b = a
@@ -81,7 +85,7 @@ front_none xs e d =
     ⊎_elim (λ short. short)
     (λ long.
     let none = e ∙ cond-false _ _ _ (le-ltb (length xs) 2 long) in
-    let some = both_digits _ _ (All-get_or _ xs 0 0 (omega arith) d) (All-get_or _ xs 1 0 (omega arith) d) in
+    let some = both_digits _ _ (All-get_or IsDigit xs 0 0 (omega arith) d) (All-get_or IsDigit xs 1 0 (omega arith) d) in
     absurd (false≢true (ap is_some none ∙ some)))
     (cases_lt (length xs) 2)
 

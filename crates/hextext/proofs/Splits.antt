@@ -1,19 +1,19 @@
 -- A text splits after its first line in one of three ways.
 use Rattle.std.proofs.Common.{◌≡◌, ℕ, suc, ◌+◌, ◌-◌, ◌<◌, ◌≤◌, Bool, true, false, cond, not, ◌&&◌, eqb, ltb, List, [], ◌∷◌, ◌++◌, length, get_or, take, drop, sym, refl, ap, ◌∙◌, subst, inl, inr, ⊎_elim, one-add, arith}
-use Rattle.std.specs.List.{prefix_len, AllByRecursion as All}
+use Rattle.std.specs.List.{prefix_len, All}
 use Rattle.std.proofs.lemmas.List.{append_assoc, take-append-drop, drop_more, take_more, take_all, take_rest, drop_all, get_or_past, take_at, drop_at, length-append, length_push, get_or_push}
-use Rattle.std.proofs.ByRecursion.{All-take, All-weaker, All-push}
+use Rattle.std.proofs.lemmas.List.Elements.{All-nil, All-cons, All-head, All-tail, All-take, All-weaker, All-push}
 use Rattle.std.proofs.lemmas.Bool.{cond_both, cond-true, cond-false, and_right, ne_eqb, le-ltb, not_from_false, and_parts, and_from, ltb-true, ltb-false, lt-ltb, eqb-true, eq-eqb, not-true, both_ways, cases_Bool, cases_lt}
 use Rattle.hextext.specs.Lines.{before_feed, chomped, line_of, after_line, Split}
 
 module _ {X : Type 0} (p : X → Bool) where
   passes_step : (x : X) (xs : List X) (t : Bool) → p x ≡ t → All (λ y. p y ≡ true) (take (prefix_len p xs) xs) → All (λ y. p y ≡ true) (take (cond t (1 + prefix_len p xs) 0) (x ∷ xs))
-  passes_step x xs true e ih = rw one-add (e, ih)
-  passes_step x xs false e ih = tt
+  passes_step x xs true e ih = rw one-add (All-cons (λ y. p y ≡ true) x (take (prefix_len p xs) xs) e ih)
+  passes_step x xs false e ih = All-nil (λ y. p y ≡ true)
 
   -- what stands before the first element that fails the test passes it
   pub passes : (xs : List X) → All (λ y. p y ≡ true) (take (prefix_len p xs) xs)
-  passes [] = tt
+  passes [] = All-nil (λ y. p y ≡ true)
   passes (x ∷ xs) = passes_step x xs (p x) refl (passes xs)
 
   fails_step : (x d : X) (xs : List X) (t : Bool) → p x ≡ t → (prefix_len p xs < length xs → p (get_or xs (prefix_len p xs) d) ≡ false) → cond t (1 + prefix_len p xs) 0 < suc (length xs) → p (get_or (x ∷ xs) (cond t (1 + prefix_len p xs) 0) d) ≡ false
@@ -33,7 +33,7 @@ is_feed b e = ⊎_elim (λ t. eqb-true b 10 t) (λ f. absurd (both_ways (not (eq
 
 module _ (xs : List ℕ) where
   unfed : All (λ b. b ≡ 10 → ⊥) (take (before_feed xs) xs)
-  unfed = All-weaker _ _ (λ b e. not_feed b e) _ (passes (λ b. not (eqb b 10)) xs)
+  unfed = All-weaker (λ b. not (eqb b 10) ≡ true) (λ b. b ≡ 10 → ⊥) (λ b e. not_feed b e) _ (passes (λ b. not (eqb b 10)) xs)
 
   module _ (more : before_feed xs < length xs) where
     rest_is : after_line xs ≡ drop (before_feed xs + 1) xs
@@ -52,7 +52,7 @@ module _ (xs : List ℕ) where
         let step : front ≡ take (length front - 1) front ++ (13 ∷ []) =
         sym (take_all (length front - 1 + 1) front (omega arith)) ∙ take_more front (length front - 1) 0 (omega arith) ∙ ap (λ b. take (length front - 1) front ++ (b ∷ [])) (eqb-true _ 13 p.1) in
         record {
-          unbroken = All-take _ _ front (subst (All (λ b. b ≡ 10 → ⊥)) is unfed);
+          unbroken = All-take (λ b. b ≡ 10 → ⊥) _ front (subst (All (λ b. b ≡ 10 → ⊥)) is unfed);
           ended = inr (inl (cut ∙ ap (λ l. l ++ (10 ∷ after_line xs)) (is ∙ step) ∙ append_assoc (take (length front - 1) front) (13 ∷ []) (10 ∷ after_line xs)));
         }
 
@@ -84,14 +84,14 @@ module _ (xs : List ℕ) where
 module _ {X : Type 0} (p : X → Bool) where
   leading_all : (xs : List X) → All (λ y. p y ≡ true) xs → prefix_len p xs ≡ length xs
   leading_all [] a = refl
-  leading_all (x ∷ xs) a = cond-true (p x) _ _ a.0 ∙ one-add (prefix_len p xs) ∙ ap suc (leading_all xs a.1)
+  leading_all (x ∷ xs) a = cond-true (p x) _ _ (All-head (λ y. p y ≡ true) x xs a) ∙ one-add (prefix_len p xs) ∙ ap suc (leading_all xs (All-tail (λ y. p y ≡ true) x xs a))
 
   leading_stop : (xs ys : List X) (y : X) → All (λ z. p z ≡ true) xs → p y ≡ false → prefix_len p (xs ++ (y ∷ ys)) ≡ length xs
   leading_stop [] ys y a e = cond-false (p y) _ _ e
-  leading_stop (x ∷ xs) ys y a e = cond-true (p x) _ _ a.0 ∙ one-add (prefix_len p (xs ++ (y ∷ ys))) ∙ ap suc (leading_stop xs ys y a.1 e)
+  leading_stop (x ∷ xs) ys y a e = cond-true (p x) _ _ (All-head (λ z. p z ≡ true) x xs a) ∙ one-add (prefix_len p (xs ++ (y ∷ ys))) ∙ ap suc (leading_stop xs ys y (All-tail (λ z. p z ≡ true) x xs a) e)
 
 pass : (xs : List ℕ) → All (λ b. b ≡ 10 → ⊥) xs → All (λ b. not (eqb b 10) ≡ true) xs
-pass xs a = All-weaker _ _ (λ b ne. not_from_false _ (ne_eqb b 10 ne)) xs a
+pass xs a = All-weaker (λ b. b ≡ 10 → ⊥) (λ b. not (eqb b 10) ≡ true) (λ b ne. not_from_false _ (ne_eqb b 10 ne)) xs a
 
 module _ (front rest : List ℕ) (unfed_front : All (λ b. b ≡ 10 → ⊥) front) where
   at_length : before_feed (front ++ (10 ∷ rest)) ≡ length front

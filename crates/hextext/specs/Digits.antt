@@ -1,13 +1,12 @@
 -- Hexadecimal digits, pairs of them, and the bytes that they write.
-use Rattle.std.specs.Prelude.{◌≡◌, ℕ, ◌+◌, ◌-◌, ◌*◌, ◌<◌, ◌≤◌, Bool, true, false, cond, List, [], ◌∷◌, length, is_some, Some, None, Option, ◌≢◌, nat_lt, slice_index}
+use Rattle.std.specs.Prelude.{◌≡◌, ℕ, ◌+◌, ◌-◌, ◌*◌, ◌<◌, ◌≤◌, Bool, true, false, cond, List, [], ◌∷◌, length, is_some, Some, None, Option, ◌≢◌, nat_lt, slice_index, All}
 use Rattle.std.specs.Option.{unwrap_or}
-use Rattle.std.specs.Int.{is_in_range as within}
-use Rattle.std.specs.List.{AllByRecursion as All}
+use Rattle.std.specs.Int.{is_in_range}
 
 -- 0 to 9, A to F and a to f are digits, and nothing else is
 unfoldable pub digit_value : ℕ → Option ℕ
 digit_value b =
-    cond (within 48 57 b) (Some (b - 48)) (cond (within 65 70 b) (Some (b - 55)) (cond (within 97 102 b) (Some (b - 87)) None))
+    cond (is_in_range 48 57 b) (Some (b - 48)) (cond (is_in_range 65 70 b) (Some (b - 55)) (cond (is_in_range 97 102 b) (Some (b - 87)) None))
 
 -- how the table of digits holds them: 255 for what is none
 pub record Coded (b code : ℕ) : Type 0 where

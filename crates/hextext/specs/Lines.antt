@@ -1,6 +1,6 @@
 -- How a text falls into lines. A line ends in LF, in CR LF, or where the text ends.
-use Rattle.std.specs.Prelude.{◌≡◌, ℕ, zero, suc, ◌+◌, ◌-◌, cond, not, ◌&&◌, ◌⊎◌, List, [], ◌∷◌, ◌++◌, length, take, ◌==◌, ◌≢◌, nat_lt, slice_index}
-use Rattle.std.specs.List.{prefix_len, between, AllByRecursion as All}
+use Rattle.std.specs.Prelude.{◌≡◌, ℕ, zero, suc, ◌+◌, ◌-◌, cond, not, ◌&&◌, ◌⊎◌, List, [], ◌∷◌, ◌++◌, length, take, ◌==◌, ◌≢◌, nat_lt, slice_index, All}
+use Rattle.std.specs.List.{prefix_len, between}
 
 -- how many bytes stand before the first LF
 abbrev pub before_feed : List ℕ → ℕ

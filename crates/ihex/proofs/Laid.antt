@@ -1,11 +1,11 @@
 -- The lines that are read so far, and the image that shows them.
 use Rattle.std.proofs.Common.{◌≡◌, ℕ, zero, suc, ◌+◌, ◌-◌, ◌*◌, ◌/◌, ◌<◌, ◌≤◌, ◌⊎◌, List, length, get_or, take, drop, replicate, Some, None, Ok, Option, sym, refl, ap, ◌∙◌, subst, inl, inr, ⊎_elim, add-one, arith, length-drop}
 use Rattle.std.proofs.lemmas.List.{get_or-replicate, drop-drop, length-take-le}
-use Rattle.std.proofs.ByRecursion.{All-take, All-drop}
+use Rattle.std.proofs.lemmas.List.Elements.{All-take, All-drop}
 use Rattle.std.proofs.lemmas.Bool.{cases_lt, cases_order}
 use Rattle.hextext.specs.Digits.{Digits, bytes_of}
 use Rattle.hextext.specs.Lines.{line}
-use Rattle.hextext.proofs.Pairs.{bytes_drop, bytes_take}
+use Rattle.hextext.proofs.Pairs.{IsDigit, bytes_drop, bytes_take}
 use Rattle.ihex.specs.declared.survey.Span.{Span}
 use Rattle.ihex.specs.declared.survey.Survey.{Survey}
 use Rattle.ihex.specs.Rules.{count, place, payload}
@@ -73,8 +73,8 @@ module _ (text : List ℕ) (n q : ℕ) (d : List ℕ) (sh : Shown text n q d) wh
   pub digits_shown : Digits d
   digits_shown =
       let spelt = sh.formed.formed.spelt in
-      let rest : Digits (drop 9 (line text n)) = subst Digits (drop-drop 8 1 (line text n)) (All-drop _ 8 (drop 1 (line text n)) spelt) in
-      subst Digits (sym sh.of_line) (All-take _ (2 * count (line text n)) (drop 9 (line text n)) rest)
+      let rest : Digits (drop 9 (line text n)) = subst Digits (drop-drop 8 1 (line text n)) (All-drop IsDigit 8 (drop 1 (line text n)) spelt) in
+      subst Digits (sym sh.of_line) (All-take IsDigit (2 * count (line text n)) (drop 9 (line text n)) rest)
 
   bytes_shown : bytes_of d ≡ payload (line text n)
   bytes_shown =
