@@ -27,7 +27,8 @@ fn blank(image: &mut [u8])
 
 // Writes the bytes that the digits write.
 fn write_pairs(digits: &[u8], part: &mut [u8])
-    requires { (Digits digits.now) × (length digits.now ≡ 2 * length part.old) }
+    requires digits { Digits digits.now }
+    requires room { length digits.now ≡ 2 * length part.old }
     ensures { part.new ≡ bytes_of digits.now }
 {
     let mut rest = digits;
@@ -43,7 +44,9 @@ fn write_pairs(digits: &[u8], part: &mut [u8])
 // Puts the data of a record into the image, unless it reaches past the image or begins below `floor`. Answers where the
 // data ends.
 fn put(image: &mut [u8], floor: usize, place: u16, digits: &[u8]) -> Result<usize, Reason>
-    requires { (Digits digits.now) × ((length digits.now % 2 ≡ 0) × (length image.old ≤ 32768)) }
+    requires digits { Digits digits.now }
+    requires even { length digits.now % 2 ≡ 0 }
+    requires limit { length image.old ≤ 32768 }
     ensures { PutIn image.old floor place digits.now result image.new }
 {
     let from = place as usize;
@@ -60,7 +63,9 @@ fn put(image: &mut [u8], floor: usize, place: u16, digits: &[u8]) -> Result<usiz
 
 // Reads the records of a text into an image that is FFh throughout.
 fn place_all(text: &[u8], image: &mut [u8]) -> Result<Survey, HexFault>
-    requires { (length text.now ≤ 1048576) × ((length image.old ≤ 32768) × (image.old ≡ replicate (length image.old) 255)) }
+    requires text_limit { length text.now ≤ 1048576 }
+    requires image_limit { length image.old ≤ 32768 }
+    requires blank { image.old ≡ replicate (length image.old) 255 }
     ensures { MatchResult result (λ s. Accepted text.now (length image.old) s image.new) (λ e. Refused text.now (length image.old) e) }
 {
     let mut reader = Reader::new(text);

@@ -56,7 +56,8 @@ fn take_header<'a>(digits: &'a [u8]) -> Option<(Header, &'a [u8])>
 
 // Which rule digits break that are not pairs of digits throughout.
 fn unpaired(digits: &[u8], line: usize, position: usize) -> HexFault
-    requires { ((Paired digits.now → ⊥)) × (position + length digits.now + 1 < 2 ^ 64) }
+    requires unpaired { Paired digits.now → ⊥ }
+    requires fits { position + length digits.now + 1 < 2 ^ 64 }
     ensures { Unpaired digits.now line position result }
 {
     let run = digit_run(digits);

@@ -30,7 +30,9 @@ impl Survey {
 
     // With a record of `count` bytes more, which lie at `place` and above.
     pub(crate) fn with(self, place: u16, count: usize) -> Survey
-        requires { (self.records + 1 < 2 ^ 64) × ((self.bytes + count < 2 ^ 64) × (place + count ≤ 65536)) }
+        requires records { self.records + 1 < 2 ^ 64 }
+        requires bytes { self.bytes + count < 2 ^ 64 }
+        requires place { place + count ≤ 65536 }
         ensures { Noted self place count result }
     {
         let records = self.records + 1;

@@ -1,6 +1,6 @@
+// Worked examples of reading, as tests: every refusal with its line and position, and what the image then holds.
 #![tactic(auto)]
 
-// Worked examples of reading, as tests: every refusal with its line and position, and what the image then holds.
 #[cfg(test)]
 mod tests {
     use ihex::{HexFault, MAX_IMAGE, MAX_TEXT, Reader, Reason, Record, Span, Survey, fill};

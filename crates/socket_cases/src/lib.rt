@@ -1,6 +1,6 @@
+// Commands, modes, marks and times, on an empty socket, as tests.
 #![tactic(auto)]
 
-// Commands, modes, marks and times, on an empty socket, as tests.
 #[cfg(test)]
 mod tests {
     use chip::{Chip, Code, Marks, Mode, Run, Tallies, Turn, Voltage, capacity};

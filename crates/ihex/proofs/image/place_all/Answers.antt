@@ -12,7 +12,7 @@ use Rattle.ihex.proofs.image.place_all.Goals.{In-Some-Data, In-Some-End}
 pub records-init : goal.records-init
 records-init c = (
   ap (λ x. x.now) c.new-reader.ensures.text,
-  rw (c.new-reader.ensures.line, c.empty-survey.ensures) (laid_none c.args.text.now c.args.image.now c.requires.1.1),
+  rw (c.new-reader.ensures.line, c.empty-survey.ensures) (laid_none c.args.text.now c.args.image.now c.requires.blank),
 )
 
 pub returns-in_err-place : goal.returns-in_err-place
@@ -47,17 +47,19 @@ pub put-requires : goal.put-requires
 put-requires c =
     let sh = shown (goal.at.put-requires c).In-Some-Data in
     let size = length_shown _ _ _ _ sh in
-    (digits_shown _ _ _ _ sh, (omega arith, omega (arith, c.records.invariant.1.long, c.requires.1.0)))
+    record { digits = digits_shown _ _ _ _ sh; even = omega arith; limit = omega (arith, c.records.invariant.1.long, c.requires.image_limit) }
 
 pub with-survey-requires : goal.with-survey-requires
 with-survey-requires c =
     let at = (goal.at.with-survey-requires c).In-Some-Data in
     let l = c.records.invariant.1 in
     let low = total_below _ _ c.records.reader.line l.before in
-    let put = c.in-Ok.ensures in (
-      omega (arith, l.surveyed.records, c.records.reader.counted, stood at, c.requires.0),
-      (omega (arith, l.surveyed.bytes, low, l.floor_is, put.0, put.1, put.2, l.long, c.requires.1.0), omega (arith, put.0, put.1, l.long, c.requires.1.0)),
-    )
+    let put = c.in-Ok.ensures in
+    record {
+      records = omega (arith, l.surveyed.records, c.records.reader.counted, stood at, c.requires.text_limit);
+      bytes = omega (arith, l.surveyed.bytes, low, l.floor_is, put.0, put.1, put.2, l.long, c.requires.image_limit);
+      place = omega (arith, put.0, put.1, l.long, c.requires.image_limit);
+    }
 
 pub records-smaller : goal.records-smaller
 records-smaller c =

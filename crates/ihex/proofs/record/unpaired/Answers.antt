@@ -17,4 +17,4 @@ pub returns-else-run-digits : goal.returns-else-run-digits
 returns-else-run-digits c =
     let digits = c.args.digits.now in
     let all = run_all digits _ c.digit_run-run.ensures c.if-run-digits.false in
-    inr (all, odd_length digits c.requires.0 all, c.at-else-run-digits.ensures)
+    inr (all, odd_length digits c.requires.unpaired all, c.at-else-run-digits.ensures)
