@@ -1,29 +1,22 @@
 -- A text splits after its first line in one of three ways.
-use Rattle.std.proofs.Common.{◌≡◌, ℕ, suc, ◌+◌, ◌-◌, ◌<◌, ◌≤◌, Bool, true, false, cond, not, ◌&&◌, eqb, ltb, List, [], ◌∷◌, ◌++◌, length, get_or, take, drop, sym, refl, ap, ◌∙◌, subst, inl, inr, ⊎_elim, one-add, arith}
-use Rattle.std.specs.List.{prefix_len, All}
-use Rattle.std.proofs.lemmas.List.{append_assoc, take-append-drop, drop_more, take_more, take_all, take_rest, drop_all, get_or_past, take_at, drop_at, length-append, length_push, get_or_push}
-use Rattle.std.proofs.lemmas.List.Elements.{All-nil, All-cons, All-head, All-tail, All-take, All-weaker, All-push}
-use Rattle.std.proofs.lemmas.Bool.{cond_both, cond-true, cond-false, and_right, ne_eqb, le-ltb, not_from_false, and_parts, and_from, ltb-true, ltb-false, lt-ltb, eqb-true, eq-eqb, not-true, both_ways, cases_Bool, cases_lt}
+use Rattle.std.proofs.Common.{◌≡◌, ℕ, ◌+◌, ◌-◌, ◌<◌, ◌≤◌, true, false, not, ◌&&◌, eqb, ltb, List, [], ◌∷◌, ◌++◌, length, get_or, take, drop, sym, refl, ap, ◌∙◌, subst, inl, inr, ⊎_elim, arith}
+use Rattle.std.specs.Prelude.{Some, None, Option, MatchOption}
+use Rattle.std.specs.List.{All}
+use Rattle.memchr.specs.Find.{IsFirstByte, is_byte}
+use Rattle.std.proofs.lemmas.List.Sums.{prefix_len_is, prefix_len_passes, prefix_len_stops}
+use Rattle.std.proofs.lemmas.List.Folds.{length-prefix_len, prefix_len-append}
+use Rattle.std.proofs.lemmas.List.{append_assoc, take-append-drop, drop_more, take_more, take_all, take_rest, get_or-take, drop_all, get_or_past, take_at, drop_at, length-append, length_push, get_or_push}
+use Rattle.std.proofs.lemmas.List.Elements.{All-take, All-push, All-get_or, All-from_get_or}
+use Rattle.std.proofs.lemmas.Bool.{cond_both, cond-true, cond-false, and_right, ne_eqb, le-ltb, not_from_false, not_from_true, false_from_ne_true, and_parts, and_from, ltb-true, ltb-false, lt-ltb, eqb-true, eq-eqb, not-true, both_ways, cases_Bool, cases_lt}
 use Rattle.hextext.specs.Lines.{before_feed, chomped, line_of, after_line, Split}
 
-module _ {X : Type 0} (p : X → Bool) where
-  passes_step : (x : X) (xs : List X) (t : Bool) → p x ≡ t → All (λ y. p y ≡ true) (take (prefix_len p xs) xs) → All (λ y. p y ≡ true) (take (cond t (1 + prefix_len p xs) 0) (x ∷ xs))
-  passes_step x xs true e ih = rw one-add (All-cons (λ y. p y ≡ true) x (take (prefix_len p xs) xs) e ih)
-  passes_step x xs false e ih = All-nil (λ y. p y ≡ true)
-
-  -- what stands before the first element that fails the test passes it
-  pub passes : (xs : List X) → All (λ y. p y ≡ true) (take (prefix_len p xs) xs)
-  passes [] = All-nil (λ y. p y ≡ true)
-  passes (x ∷ xs) = passes_step x xs (p x) refl (passes xs)
-
-  fails_step : (x d : X) (xs : List X) (t : Bool) → p x ≡ t → (prefix_len p xs < length xs → p (get_or xs (prefix_len p xs) d) ≡ false) → cond t (1 + prefix_len p xs) 0 < suc (length xs) → p (get_or (x ∷ xs) (cond t (1 + prefix_len p xs) 0) d) ≡ false
-  fails_step x d xs true e ih h = rw one-add (ih (omega arith))
-  fails_step x d xs false e ih h = e
-
-  -- and that element fails it
-  pub fails : (xs : List X) (d : X) → prefix_len p xs < length xs → p (get_or xs (prefix_len p xs) d) ≡ false
-  fails [] d h = absurd (omega arith)
-  fails (x ∷ xs) d h = fails_step x d xs (p x) refl (fails xs d) h
+-- the byte that a test looks for stands first where the search for it ends
+pub at_first_feed : (xs : List ℕ) (r : Option ℕ) → IsFirstByte (is_byte 10) xs r → MatchOption r (before_feed xs ≡ length xs) (λ i. (i < length xs) × (i ≡ before_feed xs))
+at_first_feed xs None none = prefix_len_is (λ b. not (eqb b 10)) xs (length xs) 0 (omega arith) (λ k h. not_from_false _ (false_from_ne_true _ (none k (omega arith) h))) (λ h. absurd (omega arith))
+at_first_feed xs (Some k) f = (
+  f.0.high,
+  sym (prefix_len_is (λ b. not (eqb b 10)) xs k 0 (omega arith) (λ j h. not_from_false _ (false_from_ne_true _ (f.0.before j (omega arith) h))) (λ _. not_from_true _ f.1)),
+)
 
 not_feed : (b : ℕ) → not (eqb b 10) ≡ true → b ≡ 10 → ⊥
 not_feed b e is = both_ways (eqb b 10) (not-true _ e) (eq-eqb b 10 is)
@@ -33,7 +26,11 @@ is_feed b e = ⊎_elim (λ t. eqb-true b 10 t) (λ f. absurd (both_ways (not (eq
 
 module _ (xs : List ℕ) where
   unfed : All (λ b. b ≡ 10 → ⊥) (take (before_feed xs) xs)
-  unfed = All-weaker (λ b. not (eqb b 10) ≡ true) (λ b. b ≡ 10 → ⊥) (λ b e. not_feed b e) _ (passes (λ b. not (eqb b 10)) xs)
+  unfed =
+      All-from_get_or (λ b. b ≡ 10 → ⊥) (take (before_feed xs) xs) 0
+      (λ i h.
+      let size = length-prefix_len (λ b. not (eqb b 10)) xs in
+      not_feed _ (ap (λ b. not (eqb b 10)) (get_or-take (before_feed xs) xs i 0 (omega arith)) ∙ prefix_len_passes (λ b. not (eqb b 10)) xs i 0 (omega arith)))
 
   module _ (more : before_feed xs < length xs) where
     rest_is : after_line xs ≡ drop (before_feed xs + 1) xs
@@ -41,7 +38,7 @@ module _ (xs : List ℕ) where
 
     cut : xs ≡ take (before_feed xs) xs ++ (10 ∷ after_line xs)
     cut =
-        let at = is_feed _ (fails (λ b. not (eqb b 10)) xs 0 more) in
+        let at = is_feed _ (prefix_len_stops (λ b. not (eqb b 10)) xs 0 more) in
         sym (take-append-drop (before_feed xs) xs)
         ∙ ap (λ l. take (before_feed xs) xs ++ l) (drop_more xs (before_feed xs) 0 more ∙ ap (λ b. b ∷ drop (before_feed xs + 1) xs) at ∙ ap (λ l. 10 ∷ l) (sym rest_is))
 
@@ -81,21 +78,15 @@ module _ (xs : List ℕ) where
   splits = cond_both _ _ _ (λ l. Split xs l (after_line xs)) (λ e. at_feed (ltb-true _ _ e)) (λ e. at_end (ltb-false _ _ e))
 
 -- and in no other way than that
-module _ {X : Type 0} (p : X → Bool) where
-  leading_all : (xs : List X) → All (λ y. p y ≡ true) xs → prefix_len p xs ≡ length xs
-  leading_all [] a = refl
-  leading_all (x ∷ xs) a = cond-true (p x) _ _ (All-head (λ y. p y ≡ true) x xs a) ∙ one-add (prefix_len p xs) ∙ ap suc (leading_all xs (All-tail (λ y. p y ≡ true) x xs a))
-
-  leading_stop : (xs ys : List X) (y : X) → All (λ z. p z ≡ true) xs → p y ≡ false → prefix_len p (xs ++ (y ∷ ys)) ≡ length xs
-  leading_stop [] ys y a e = cond-false (p y) _ _ e
-  leading_stop (x ∷ xs) ys y a e = cond-true (p x) _ _ (All-head (λ z. p z ≡ true) x xs a) ∙ one-add (prefix_len p (xs ++ (y ∷ ys))) ∙ ap suc (leading_stop xs ys y (All-tail (λ z. p z ≡ true) x xs a) e)
-
-pass : (xs : List ℕ) → All (λ b. b ≡ 10 → ⊥) xs → All (λ b. not (eqb b 10) ≡ true) xs
-pass xs a = All-weaker (λ b. b ≡ 10 → ⊥) (λ b. not (eqb b 10) ≡ true) (λ b ne. not_from_false _ (ne_eqb b 10 ne)) xs a
+unbroken : (xs : List ℕ) → All (λ b. b ≡ 10 → ⊥) xs → before_feed xs ≡ length xs
+unbroken xs a =
+    prefix_len_is (λ b. not (eqb b 10)) xs (length xs) 0 (omega arith)
+    (λ k h. not_from_false _ (ne_eqb _ 10 (All-get_or (λ b. b ≡ 10 → ⊥) xs k 0 h a)))
+    (λ h. absurd (omega arith))
 
 module _ (front rest : List ℕ) (unfed_front : All (λ b. b ≡ 10 → ⊥) front) where
   at_length : before_feed (front ++ (10 ∷ rest)) ≡ length front
-  at_length = leading_stop (λ b. not (eqb b 10)) front rest 10 (pass front unfed_front) refl
+  at_length = prefix_len-append (λ b. not (eqb b 10)) front (10 ∷ rest) ∙ cond-true _ _ _ (eq-eqb _ _ (unbroken front unfed_front)) ∙ omega arith
 
   line_to_feed : line_of (front ++ (10 ∷ rest)) ≡ chomped front
   line_to_feed =
@@ -134,7 +125,7 @@ only_crlf line rest a =
 
 only_end : (line : List ℕ) → All (λ b. b ≡ 10 → ⊥) line → (line ≡ line_of line) × (after_line line ≡ [])
 only_end line a =
-    let n = leading_all (λ b. not (eqb b 10)) line (pass line a) in
+    let n = unbroken line a in
     (sym (cond-false _ _ _ (le-ltb (before_feed line) (length line) (omega arith))), nothing_after line (omega arith))
 
 pub only : (xs line rest : List ℕ) → Split xs line rest → (line ≡ line_of xs) × (rest ≡ after_line xs)

@@ -9,7 +9,7 @@ use crate::table::{NONE, VALUES};
 fn looked_up(byte: u8) -> u8
     ensures { Coded byte result }
 {
-    VALUES[byte as usize]
+    VALUES[usize::from(byte)]
 }
 
 // The value of a hexadecimal digit, of either case.
@@ -38,10 +38,7 @@ pub fn take_byte<'a>(text: &'a [u8]) -> Option<(u8, &'a [u8])>
 pub fn digit_run(text: &[u8]) -> usize
     ensures { Run text.now result }
 {
-    'digits: for (i, byte) in text.iter().enumerate() {
-        if digit(*byte).is_none() {
-            return i;
-        }
-    }
-    text.len()
+    text.iter()
+        .position(|byte| digit(*byte).is_none())
+        .unwrap_or(text.len())
 }
