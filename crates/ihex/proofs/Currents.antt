@@ -1,5 +1,5 @@
 -- From a line's own answer to the reader's.
-use Rattle.std.proofs.Common.{◌≡◌, ℕ, ◌+◌, ◌-◌, ◌*◌, ◌<◌, ◌≤◌, List, length, take, drop, Some, Ok, Err, sym, ap, ◌∙◌, add-zero, add-one, arith, length-drop}
+use Rattle.std.proofs.Common.{◌≡◌, ℕ, ◌+◌, ◌-◌, ◌*◌, ◌<◌, ◌≤◌, List, length, take, drop, Some, Ok, Err, Result, sym, ap, ◌∙◌, subst, add-zero, add-one, arith, length-drop}
 use Rattle.std.proofs.lemmas.List.{take_rest, drop-drop}
 use Rattle.hextext.specs.Lines.{after_line, from_line, line, start}
 use Rattle.hextext.proofs.Froms.{from_start, from_length, line_part, after_shorter}
@@ -12,6 +12,10 @@ use Rattle.ihex.specs.Rules.{count, Broken, offset}
 use Rattle.ihex.specs.Faults.{fault, fault_at}
 use Rattle.ihex.specs.Reads.{There, Next}
 use Rattle.ihex.specs.Steps.{LineRead}
+
+-- the same line, named another way
+pub same_line : (l k : List ℕ) (n m p q : ℕ) (r : Result Record HexFault) → l ≡ k → n ≡ m → p ≡ q → LineRead l n p r → LineRead k m q r
+same_line l k n m p q r a b c h = subst (λ x. LineRead x m q r) a (subst (λ x. LineRead l x q r) b (subst (λ x. LineRead l n x r) c h))
 
 module _ (text : List ℕ) (n p : ℕ) (at : p ≡ start text n) where
   -- what the reader cuts off the text

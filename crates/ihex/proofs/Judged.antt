@@ -1,5 +1,5 @@
 -- What a line's header and digits say of its rules.
-use Rattle.std.proofs.Common.{◌≡◌, ℕ, ◌+◌, ◌-◌, ◌*◌, ◌%◌, ◌<◌, List, ◌∷◌, length, get_or, take, drop, Err, sum, sym, refl, ap, ◌∙◌, subst, ⊎_elim, add-zero, arith, length-drop}
+use Rattle.std.proofs.Common.{◌≡◌, ℕ, ◌+◌, ◌*◌, ◌%◌, ◌<◌, List, ◌∷◌, length, get_or, take, drop, Err, sum, sym, refl, ap, ◌∙◌, subst, ⊎_elim, add-zero, arith, length-drop}
 use Rattle.std.specs.List.{prefix_len}
 use Rattle.std.proofs.lemmas.List.{drop-drop}
 use Rattle.hextext.specs.Digits.{is_digit, Digits, bytes_of}
@@ -53,9 +53,9 @@ module _ (line ds : List ℕ) (is : ds ≡ drop 1 line) where
     pub sized_is : length body ≡ 2 * h.count + 2 → Sized line
     sized_is e = (omega (arith, size_is), omega (arith, size_is, count_is))
 
-    pub digits_are : take (2 * h.count - 0) body ≡ take (2 * count line) (drop 9 line)
+    pub digits_are : take (2 * h.count) body ≡ take (2 * count line) (drop 9 line)
     digits_are =
-        let n : 2 * h.count - 0 ≡ 2 * count line = omega (arith, count_is) in
+        let n : 2 * h.count ≡ 2 * count line = omega (arith, count_is) in
         let b : body ≡ drop 9 line = head.rest_is ∙ ap (drop 8) is ∙ drop-drop 8 1 line in
         ap (λ k. take k body) n ∙ ap (take (2 * count line)) b
 

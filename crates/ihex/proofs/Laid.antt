@@ -84,7 +84,7 @@ module _ (text : List ℕ) (n q : ℕ) (d : List ℕ) (sh : Shown text n q d) wh
       ∙ ap (take (count (line text n))) (bytes_drop 4 (drop 1 (line text n)))
 
 -- one data line more
-module _ (text : List ℕ) (size n f q end : ℕ) (s t : Survey) (image after d : List ℕ) (l : Laid text size n f s image) (sh : Shown text n q d) (p : PutIn image f q d (Ok end) after) (same : length after ≡ length image) (noted : Noted s q (length d / 2) t) where
+module _ (text : List ℕ) (size n f q end : ℕ) (s t : Survey) (image after d : List ℕ) (l : Laid text size n f s image) (sh : Shown text n q d) (p : PutIn image f 0 0 q d (Ok end) after) (same : length after ≡ length image) (noted : Noted s q (length d / 2) t) where
   c_is : length d / 2 ≡ count (line text n)
   c_is = half_shown text n q d sh
 

@@ -1,11 +1,12 @@
 -- What each answer of the reader means for the text as a whole.
-use Rattle.std.proofs.Common.{◌≡◌, ℕ, suc, ◌+◌, ◌<◌, ◌≤◌, List, [], length, Some, Ok, Err, Option, sym, refl, ap, ◌∙◌, subst, ⊎_elim, add-one, arith, Bor}
+use Rattle.std.proofs.Common.{◌≡◌, ℕ, suc, ◌+◌, ◌<◌, ◌≤◌, List, [], length, Some, Ok, Err, Option, sym, refl, ap, ◌∙◌, subst, ⊎_elim, add-one, arith}
 use Rattle.std.proofs.lemmas.List.{nil_from_length}
 use Rattle.hextext.specs.Lines.{from_line, line, start}
 use Rattle.hextext.proofs.Froms.{from_length, after_shorter}
 use Rattle.ihex.specs.declared.fault.Reason.{Reason}
 use Rattle.ihex.specs.declared.fault.Reason.TheVariants.{MissingColon, NotADigit, WrongLength, WrongSum, UnknownType, OutOfRange, OutOfOrder, MissingEnd, AfterEnd, TooLong}
 use Rattle.ihex.specs.declared.fault.HexFault.{HexFault}
+use Rattle.ihex.specs.declared.pairs.Pairs.{Pairs}
 use Rattle.ihex.specs.declared.record.Record.{Record}
 use Rattle.ihex.specs.declared.record.Record.TheVariants.{Data, End}
 use Rattle.ihex.specs.declared.survey.Survey.{Survey}
@@ -18,8 +19,8 @@ use Rattle.ihex.proofs.Laid.{Laid, half_shown}
 
 -- the reader holds `held`, which is the text
 module _ (held text : List ℕ) (n : ℕ) (o : Option Record) (is : held ≡ text) (answer : Next held n (Ok o)) where
-  pub shown_of : (q : ℕ) (d : Bor (List ℕ)) → o ≡ Some (Data q d) → Shown text n q d.now
-  shown_of q d e = subst (λ t. Shown t n q d.now) is (subst (λ x. Next held n (Ok x)) e answer)
+  pub shown_of : (q : ℕ) (d : Pairs) → o ≡ Some (Data q d) → Shown text n q d.digits.now
+  shown_of q d e = subst (λ t. Shown t n q d.digits.now) is (subst (λ x. Next held n (Ok x)) e answer)
 
   pub closes_of : o ≡ Some End → Closes text n
   closes_of e = let p = subst (λ t. Next t n (Ok (Some End))) is (subst (λ x. Next held n (Ok x)) e answer) in record { there = p.0; formed = p.1 }
@@ -75,17 +76,18 @@ module _ (text : List ℕ) (size n f : ℕ) (s : Survey) (image : List ℕ) (l :
       reason_of AfterEnd = refl
       reason_of TooLong = refl
 
-  pub refused_put : (q p : ℕ) (d after : List ℕ) (r : Reason) (e : HexFault) → Shown text n q d → p ≡ start text n → PutIn image f q d (Err r) after → e ≡ fault_at r (n + 1) p → Refused text size e
-  refused_put q p d after r e sh at put is =
+  pub refused_put : (q m p : ℕ) (d after : List ℕ) (e : HexFault) → Shown text n q d → m ≡ n + 1 → p ≡ start text n → PutIn image f m p q d (Err e) after → Refused text size e
+  refused_put q m p d after e sh em at put =
       let c = half_shown text n q d sh in
-      let start_is = is ∙ ap (fault_at r (n + 1)) at in
       ⊎_elim
-      (λ out.
-      stopped OutOfRange e (start_is ∙ ap (λ x. fault_at x (n + 1) (start text n)) out.0) (sh.there, sh.formed, omega (arith, out.1, l.long, c, sh.place_is)))
+      (λ out. stopped OutOfRange e (out.0 ∙ named OutOfRange) (sh.there, sh.formed, omega (arith, out.1, l.long, c, sh.place_is)))
       (λ low.
-      stopped OutOfOrder e (start_is ∙ ap (λ x. fault_at x (n + 1) (start text n)) low.0)
+      stopped OutOfOrder e (low.0 ∙ named OutOfOrder)
       (sh.there, sh.formed, omega (arith, low.1, l.long, c, sh.place_is), omega (arith, low.2, l.floor_is, sh.place_is)))
       put
+    where
+      named : (r : Reason) → fault_at r m p ≡ fault_at r (n + 1) (start text n)
+      named r = ap (λ i. fault_at r i p) em ∙ ap (fault_at r (n + 1)) at
 
   pub refused_none : (held : List ℕ) (p : ℕ) (e : HexFault) → held ≡ text → from_line held n ≡ [] → p ≡ start text n → e ≡ fault_at MissingEnd (n + 1) p → Refused text size e
   refused_none held p e same none at is = stopped MissingEnd e (is ∙ ap (fault_at MissingEnd (n + 1)) at) (subst (λ t. from_line t n ≡ []) same none)

@@ -22,7 +22,7 @@ pub record Shown (text : List ℕ) (n q : ℕ) (digits : List ℕ) : Type 0 wher
 -- the answer at line n, counted from 0
 abbrev pub Next : List ℕ → ℕ → Result (Option Record) HexFault → Type 0
 Next text n (Ok None) = from_line text n ≡ []
-Next text n (Ok (Some (Data q digits))) = Shown text n q digits.now
+Next text n (Ok (Some (Data q pairs))) = Shown text n q pairs.digits.now
 Next text n (Ok (Some End)) = There text n × EndLine (line text n)
 Next text n (Err e) = There text n × Broken e.reason (line text n) × (e ≡ fault e.reason text n)
 

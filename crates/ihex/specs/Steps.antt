@@ -3,7 +3,6 @@ use Rattle.std.specs.Prelude.{◌≡◌, ℕ, ◌+◌, ◌-◌, ◌*◌, ◌/◌
 use Rattle.std.specs.List.{prefix_len}
 use Rattle.hextext.specs.Digits.{is_digit, Digits, bytes_of}
 use Rattle.hextext.specs.Lines.{start}
-use Rattle.ihex.specs.declared.fault.Reason.{Reason}
 use Rattle.ihex.specs.declared.fault.Reason.TheVariants.{NotADigit, WrongLength, OutOfRange, OutOfOrder}
 use Rattle.ihex.specs.declared.fault.HexFault.{HexFault}
 use Rattle.ihex.specs.declared.record.Header.{Header}
@@ -14,18 +13,6 @@ use Rattle.ihex.specs.declared.survey.Survey.{Survey}
 use Rattle.ihex.specs.Rules.{count, place, DataLine, EndLine, Broken, offset}
 use Rattle.ihex.specs.Faults.{fault_at}
 use Rattle.ihex.specs.Reads.{Next}
-
--- pairs of digits, and nothing else
-pub record Paired (digits : List ℕ) : Type 0 where
-  pub spelt : Digits digits
-  pub even : length digits % 2 ≡ 0
-
--- the first byte that pairs of digits write, and the pairs after it
-pub record Taken (digits : List ℕ) (byte : ℕ) (rest : List ℕ) : Type 0 where
-  pub paired : Paired rest
-  pub size : length rest + 2 ≡ length digits
-  pub bytes : bytes_of digits ≡ byte ∷ bytes_of rest
-  pub rest_is : rest ≡ drop 2 digits
 
 -- the first four bytes, and the digits after them
 pub record Headed (digits : List ℕ) (header : Header) (rest : List ℕ) : Type 0 where
@@ -40,7 +27,7 @@ Unpaired digits n p e =
 
 -- what reading a line answers, where it is line n and starts at position p
 abbrev pub LineRead : List ℕ → ℕ → ℕ → Result Record HexFault → Type 0
-LineRead line n p (Ok (Data q digits)) = DataLine line × (q ≡ place line) × (digits.now ≡ take (2 * count line) (drop 9 line))
+LineRead line n p (Ok (Data q pairs)) = DataLine line × (q ≡ place line) × (pairs.digits.now ≡ take (2 * count line) (drop 9 line))
 LineRead line n p (Ok End) = EndLine line
 LineRead line n p (Err e) = Broken e.reason line × (e.line ≡ n) × (e.position ≡ p + offset e.reason line)
 
@@ -55,11 +42,12 @@ pub record Put (image : List ℕ) (from : ℕ) (digits after : List ℕ) : Type 
   pub here : (j : ℕ) → j < length digits / 2 → slice_index after (from + j) ≡ slice_index (bytes_of digits) j
   pub elsewhere : (a : ℕ) → (a < from) ⊎ (from + length digits / 2 ≤ a) → slice_index after a ≡ slice_index image a
 
-abbrev pub PutIn : List ℕ → ℕ → ℕ → List ℕ → Result ℕ Reason → List ℕ → Type 0
-PutIn image floor from digits (Ok end) after =
+-- the data of a line of this number and position, put into an image
+abbrev pub PutIn : List ℕ → ℕ → ℕ → ℕ → ℕ → List ℕ → Result ℕ HexFault → List ℕ → Type 0
+PutIn image floor n p from digits (Ok end) after =
     (end ≡ from + length digits / 2) × (end ≤ length image) × (floor ≤ from) × Put image from digits after
-PutIn image floor from digits (Err reason) after =
-    ((reason ≡ OutOfRange) × (length image < from + length digits / 2)) ⊎ ((reason ≡ OutOfOrder) × (from + length digits / 2 ≤ length image) × (from < floor))
+PutIn image floor n p from digits (Err e) after =
+    ((e ≡ fault_at OutOfRange n p) × (length image < from + length digits / 2)) ⊎ ((e ≡ fault_at OutOfOrder n p) × (from + length digits / 2 ≤ length image) × (from < floor))
 
 -- a survey of no record, and one that has grown by a record
 abbrev pub none_noted : Survey

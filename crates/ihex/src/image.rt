@@ -1,13 +1,12 @@
-ghost use Rattle.std.specs.Prelude.{◌≡◌, ◌+◌, ◌*◌, ◌%◌, ◌<◌, ◌≤◌, ◌⊎◌, length, replicate, Decides, MatchResult};
-ghost use Rattle.hextext.specs.Digits.{Digits, bytes_of};
+ghost use Rattle.std.specs.Prelude.{◌≡◌, ◌<◌, ◌≤◌, ◌⊎◌, length, replicate, Decides, MatchResult};
 ghost use Rattle.ihex.specs.Steps.{PutIn};
 ghost use Rattle.ihex.specs.Files.{Accepted, Refused, Filled, Sole, Lined};
 
-use crate::fault::{HexFault, Reason};
+use crate::fault::{HexFault, Reason, Spot};
+use crate::pairs::Pairs;
 use crate::reader::Reader;
 use crate::record::Record;
 use crate::survey::Survey;
-use hextext::take_byte;
 
 // The longest text that is read, and the largest image.
 pub const MAX_TEXT: usize = 1_048_576;
@@ -17,47 +16,27 @@ pub const MAX_IMAGE: usize = 32_768;
 // The byte that an erased chip shows, and a place for which a text has none.
 const BLANK: u8 = 0xff;
 
-fn blank(image: &mut [u8])
-    ensures { image.new ≡ replicate (length image.old) 255 }
+// Puts the data of a line that stands at `spot` into the image, unless it reaches past the image or begins below `floor`.
+// Answers where the data ends.
+fn put(
+    image: &mut [u8],
+    floor: usize,
+    spot: Spot,
+    place: u16,
+    pairs: Pairs<'_>,
+) -> Result<usize, HexFault>
+    requires { length image.old ≤ 32768 }
+    ensures { PutIn image.old floor spot.line spot.position place pairs.entry.digits.now result image.new }
 {
-    'places: for byte in image.iter_mut() {
-        *byte = BLANK;
-    }
-}
-
-// Writes the bytes that the digits write.
-fn write_pairs(digits: &[u8], part: &mut [u8])
-    requires digits { Digits digits.now }
-    requires room { length digits.now ≡ 2 * length part.old }
-    ensures { part.new ≡ bytes_of digits.now }
-{
-    let mut rest = digits;
-    'pairs: for byte in part.iter_mut() {
-        let Some((value, after)) = take_byte(rest) else {
-            unreachable()
-        };
-        *byte = value;
-        rest = after;
-    }
-}
-
-// Puts the data of a record into the image, unless it reaches past the image or begins below `floor`. Answers where the
-// data ends.
-fn put(image: &mut [u8], floor: usize, place: u16, digits: &[u8]) -> Result<usize, Reason>
-    requires digits { Digits digits.now }
-    requires even { length digits.now % 2 ≡ 0 }
-    requires limit { length image.old ≤ 32768 }
-    ensures { PutIn image.old floor place digits.now result image.new }
-{
-    let from = place as usize;
-    let to = from + digits.len() / 2;
+    let from = usize::from(place);
+    let to = from + pairs.len();
     if to > image.len() {
-        return Err(Reason::OutOfRange);
+        return Err(spot.refused(Reason::OutOfRange));
     }
     if from < floor {
-        return Err(Reason::OutOfOrder);
+        return Err(spot.refused(Reason::OutOfOrder));
     }
-    write_pairs(digits, &mut image[from..to]);
+    pairs.write(&mut image[from..to]);
     Ok(to)
 }
 
@@ -69,26 +48,22 @@ fn place_all(text: &[u8], image: &mut [u8]) -> Result<Survey, HexFault>
     ensures { MatchResult result (λ s. Accepted text.now (length image.old) s image.new) (λ e. Refused text.now (length image.old) e) }
 {
     let mut reader = Reader::new(text);
-    let mut survey = Survey::empty();
-    let mut floor: usize = 0;
+    let mut survey = Survey::default();
+    let mut floor = 0;
     'records: loop {
-        let line = reader.line + 1;
-        let position = reader.position;
+        let spot = reader.spot();
         match reader.next()? {
-            Some(Record::Data { place, digits }) => match put(image, floor, place, digits) {
-                Ok(end) => {
-                    survey = survey.with(place, digits.len() / 2);
-                    floor = end;
-                }
-                Err(reason) => return Err(HexFault::at(reason, line, position)),
-            },
+            Some(Record::Data { place, pairs }) => {
+                floor = put(image, floor, spot, place, pairs)?;
+                survey = survey.with(place, pairs.len());
+            }
             Some(Record::End) => {
                 if reader.position < text.len() {
-                    return Err(HexFault::at(Reason::AfterEnd, reader.line + 1, reader.position));
+                    return Err(reader.spot().refused(Reason::AfterEnd));
                 }
                 return Ok(survey);
             }
-            None => return Err(HexFault::at(Reason::MissingEnd, line, position)),
+            None => return Err(spot.refused(Reason::MissingEnd)),
         }
     }
 }
@@ -110,13 +85,17 @@ pub fn fill(text: &[u8], image: &mut [u8]) -> Result<Survey, HexFault>
     ensures lined { Lined text.now }
 {
     if too_long(text, image) {
-        return Err(HexFault::at(Reason::TooLong, 0, 0));
+        return Err(HexFault {
+            reason: Reason::TooLong,
+            line: 0,
+            position: 0,
+        });
     }
-    blank(image);
+    image.fill(BLANK);
     match place_all(text, image) {
         Ok(survey) => Ok(survey),
         Err(fault) => {
-            blank(image);
+            image.fill(BLANK);
             Err(fault)
         }
     }

@@ -1,9 +1,9 @@
-ghost use Rattle.std.specs.Prelude.{◌≡◌, ◌≤◌};
+ghost use Rattle.std.specs.Prelude.{◌≡◌, ◌+◌, ◌≤◌};
 ghost use Rattle.hextext.specs.Lines.{start};
 ghost use Rattle.ihex.specs.Reads.{Next, Moves};
 ghost use Rattle.ihex.specs.Steps.{Current};
 
-use crate::fault::HexFault;
+use crate::fault::{HexFault, Spot};
 use crate::record::{Record, read_record};
 use hextext::split_line;
 
@@ -32,18 +32,28 @@ impl<'a> Reader<'a> {
         }
     }
 
+    // Where the next line stands.
+    pub(crate) fn spot(&self) -> Spot
+        ensures line { result.line ≡ self.now.line + 1 }
+        ensures position { result.position ≡ self.now.position }
+    {
+        Spot {
+            line: self.line + 1,
+            position: self.position,
+        }
+    }
+
     // The record of the next line, and the position after it.
     fn current(&self) -> Result<Option<(Record<'a>, usize)>, HexFault>
         ensures { Current self.now.text.now self.now.line result }
     {
-        let text = self.text;
-        let left = &text[self.position..];
+        let left = &self.text[self.position..];
         if left.is_empty() {
             return Ok(None);
         }
         let (line, rest) = split_line(left);
-        let record = read_record(line, self.line + 1, self.position)?;
-        Ok(Some((record, text.len() - rest.len())))
+        let record = read_record(line, self.spot())?;
+        Ok(Some((record, self.text.len() - rest.len())))
     }
 
     // The next record; none once the lines have run out.

@@ -1,31 +1,24 @@
-ghost use Rattle.std.specs.Prelude.{◌≡◌, ◌+◌, ◌*◌, ◌%◌, ◌^◌, ◌<◌, length, sum, MatchOption};
-ghost use Rattle.hextext.specs.Digits.{bytes_of};
-ghost use Rattle.ihex.specs.Steps.{Paired, Taken, Headed, Unpaired, LineRead};
+ghost use Rattle.std.specs.Prelude.{◌≡◌, ◌+◌, ◌^◌, ◌<◌, length, MatchOption};
+ghost use Rattle.ihex.specs.Pairing.{Paired};
+ghost use Rattle.ihex.specs.Steps.{Headed, Unpaired, LineRead};
 
-use crate::fault::{HexFault, Reason};
-use hextext::{digit_run, take_byte};
+use crate::fault::{HexFault, Reason, Spot};
+use crate::pairs::Pairs;
+use hextext::digit_run;
 
 // What a line says: bytes for a place, as the digits that write them, or that the text ends.
 #[derive(Clone, Copy, Debug)]
 pub enum Record<'a> {
-    Data { place: u16, digits: &'a [u8] },
+    Data { place: u16, pairs: Pairs<'a> },
     End,
 }
 
-// The sum of the bytes that the digits write, modulo 256; none unless they are pairs of digits throughout.
-fn pair_sum(digits: &[u8]) -> Option<u8>
-    ensures { MatchOption result (Paired digits.now → ⊥) (λ s. Paired digits.now × (s ≡ sum (bytes_of digits.now) % 256)) }
-{
-    let mut sum: u8 = 0;
-    let mut rest = digits;
-    'pairs: while let Some((byte, after)) = take_byte(rest) {
-        sum = sum.wrapping_add(byte);
-        rest = after;
-    }
-    if rest.is_empty() { Some(sum) } else { None }
-}
+// The types of a line.
+const DATA: u8 = 0;
 
-// What stands before the data of a line.
+const END: u8 = 1;
+
+// What stands before the data of a line. Its type is told apart in one place, where it becomes a `Record`.
 #[derive(Clone, Copy)]
 struct Header {
     count: u8,
@@ -33,72 +26,64 @@ struct Header {
     kind: u8,
 }
 
-// The first byte of pairs of digits, and the pairs after it; none only where there are none.
-fn next_byte<'a>(digits: &'a [u8]) -> Option<(u8, &'a [u8])>
-    requires { Paired digits.now }
-    ensures { MatchOption result (length digits.now ≡ 0) (λ p. Taken digits.now p.0 p.1.now) }
-{
-    take_byte(digits)
+impl Header {
+    // The header at the front of a line's pairs, and the pairs after it.
+    fn split(pairs: Pairs<'_>) -> Option<(Header, Pairs<'_>)>
+        ensures { MatchOption result (length pairs.entry.digits.now < 8) (λ p. Headed pairs.entry.digits.now p.0 p.1.digits.now) }
+    {
+        let (count, rest) = pairs.split_first()?;
+        let (high, rest) = rest.split_first()?;
+        let (low, rest) = rest.split_first()?;
+        let (kind, rest) = rest.split_first()?;
+        let place = u16::from_be_bytes([high, low]);
+        Some((Header { count, place, kind }, rest))
+    }
 }
 
-// The header at the front of pairs of digits, and the pairs after it.
-fn take_header<'a>(digits: &'a [u8]) -> Option<(Header, &'a [u8])>
-    requires { Paired digits.now }
-    ensures { MatchOption result (length digits.now < 8) (λ p. Headed digits.now p.0 p.1.now) }
-{
-    let (count, rest) = next_byte(digits)?;
-    let (high, rest) = next_byte(rest)?;
-    let (low, rest) = next_byte(rest)?;
-    let (kind, rest) = next_byte(rest)?;
-    let place = high as u16 * 256 + low as u16;
-    Some((Header { count, place, kind }, rest))
-}
-
-// Which rule digits break that are not pairs of digits throughout.
-fn unpaired(digits: &[u8], line: usize, position: usize) -> HexFault
+// Which rule digits break that are not pairs of digits throughout, in a line that stands at `spot`.
+fn unpaired(digits: &[u8], spot: Spot) -> HexFault
     requires unpaired { Paired digits.now → ⊥ }
-    requires fits { position + length digits.now + 1 < 2 ^ 64 }
-    ensures { Unpaired digits.now line position result }
+    requires fits { spot.position + length digits.now + 1 < 2 ^ 64 }
+    ensures { Unpaired digits.now spot.line spot.position result }
 {
     let run = digit_run(digits);
-    if run < digits.len() {
-        HexFault::at(Reason::NotADigit, line, position + 1 + run)
-    } else {
-        HexFault::at(Reason::WrongLength, line, position)
+    if run == digits.len() {
+        return spot.refused(Reason::WrongLength);
     }
+    let stray = Spot {
+        position: spot.position + 1 + run,
+        ..spot
+    };
+    stray.refused(Reason::NotADigit)
 }
 
-// Reads a line, given without its end, that is line `number` and starts at `position`.
-pub(crate) fn read_record<'a>(
-    line: &'a [u8],
-    number: usize,
-    position: usize,
-) -> Result<Record<'a>, HexFault>
-    requires { position + length line.now < 2 ^ 64 }
-    ensures { LineRead line.now number position result }
+// Reads a line, given without its end, that stands at `spot`.
+pub(crate) fn read_record<'a>(line: &'a [u8], spot: Spot) -> Result<Record<'a>, HexFault>
+    requires { spot.position + length line.now < 2 ^ 64 }
+    ensures { LineRead line.now spot.line spot.position result }
 {
     let [b':', digits @ ..] = line else {
-        return Err(HexFault::at(Reason::MissingColon, number, position));
+        return Err(spot.refused(Reason::MissingColon));
     };
-    let Some(sum) = pair_sum(digits) else {
-        return Err(unpaired(digits, number, position));
+    let Some((pairs, sum)) = Pairs::summed(digits) else {
+        return Err(unpaired(digits, spot));
     };
-    let Some((header, body)) = take_header(digits) else {
-        return Err(HexFault::at(Reason::WrongLength, number, position));
+    let Some((header, body)) = Header::split(pairs) else {
+        return Err(spot.refused(Reason::WrongLength));
     };
-    let size = 2 * header.count as usize;
-    if body.len() != size + 2 {
-        return Err(HexFault::at(Reason::WrongLength, number, position));
+    let count = usize::from(header.count);
+    if body.len() != count + 1 {
+        return Err(spot.refused(Reason::WrongLength));
     }
     if sum != 0 {
-        return Err(HexFault::at(Reason::WrongSum, number, position));
+        return Err(spot.refused(Reason::WrongSum));
     }
     match header.kind {
-        0 => Ok(Record::Data {
+        DATA => Ok(Record::Data {
             place: header.place,
-            digits: &body[0..size],
+            pairs: body.first(count),
         }),
-        1 if header.count == 0 => Ok(Record::End),
-        _ => Err(HexFault::at(Reason::UnknownType, number, position)),
+        END if count == 0 => Ok(Record::End),
+        _ => Err(spot.refused(Reason::UnknownType)),
     }
 }

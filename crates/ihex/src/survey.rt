@@ -1,5 +1,5 @@
 ghost use Rattle.std.specs.Prelude.{◌≡◌, ◌+◌, ◌^◌, ◌<◌, ◌≤◌};
-ghost use Rattle.ihex.specs.Steps.{none_noted, Noted};
+ghost use Rattle.ihex.specs.Steps.{Noted};
 
 // The lowest and the highest place that a text has a byte for.
 #[derive(Clone, Copy, Debug, PartialEq)]
@@ -9,7 +9,7 @@ pub struct Span {
 }
 
 // What an accepted text holds: its data records, the bytes that they place, and where.
-#[derive(Clone, Copy, Debug, PartialEq)]
+#[derive(Clone, Copy, Debug, Default, PartialEq)]
 pub struct Survey {
     pub records: usize,
     pub bytes: usize,
@@ -17,17 +17,6 @@ pub struct Survey {
 }
 
 impl Survey {
-    // Of no record.
-    pub(crate) fn empty() -> Survey
-        ensures { result ≡ none_noted }
-    {
-        Survey {
-            records: 0,
-            bytes: 0,
-            span: None,
-        }
-    }
-
     // With a record of `count` bytes more, which lie at `place` and above.
     pub(crate) fn with(self, place: u16, count: usize) -> Survey
         requires records { self.records + 1 < 2 ^ 64 }
@@ -39,11 +28,8 @@ impl Survey {
         if count == 0 {
             return Survey { records, ..self };
         }
-        let lowest = match self.span {
-            Some(span) => span.lowest,
-            None => place,
-        };
-        let highest = (place as usize + count - 1) as u16;
+        let lowest = self.span.map_or(place, |span| span.lowest);
+        let highest = (usize::from(place) + count - 1) as u16;
         Survey {
             records,
             bytes: self.bytes + count,

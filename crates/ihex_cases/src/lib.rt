@@ -287,9 +287,9 @@ mod tests {
     // The next record is data at a place, with these digits.
     fn gives(rt: &impl Abort, reader: &mut Reader<'_>, at: u16, text: &[u8]) -> Result<(), Fail> {
         match reader.next()? {
-            Some(Record::Data { place, digits }) => {
+            Some(Record::Data { place, pairs }) => {
                 assert_eq!(rt; place, at);
-                assert_eq!(rt; digits, text);
+                assert_eq!(rt; pairs.digits, text);
                 Ok(())
             }
             _ => Err(Fail::new("no data record")),
@@ -318,6 +318,20 @@ mod tests {
         };
         assert_eq!(rt; reader.next().err(), Some(fault));
         assert_eq!(rt; reader.next().err(), Some(fault));
+        Ok(())
+    }
+
+    #[test]
+    fn a_refusal_is_one_sentence(rt: HostRuntime) -> Result<(), Fail> {
+        let fault = HexFault {
+            reason: Reason::WrongSum,
+            line: 17,
+            position: 1048,
+        };
+        assert_eq!(rt;
+            fault.to_string(rt.alloc())?.as_str(),
+            "refusal 33 at line 17, position 1048: the bytes of the line do not add up to 0 modulo 256"
+        );
         Ok(())
     }
 }

@@ -3,24 +3,18 @@
 
 use anyhow::anyhow;
 use ihex::{MAX_IMAGE, MAX_TEXT, fill};
-use report::report;
+use report::Findings;
 use std::io::Read;
 use std::process::ExitCode;
 use std::{env, io};
 
+// One byte more than a text may have.
+const LIMIT: u64 = MAX_TEXT as u64 + 1;
+
 // Reads standard input until it ends, or until there is one byte more than a text may have.
 fn read_text(rt: &HostRuntime) -> anyhow::Result<Vec<u8>> {
-    let mut text = vec![in rt.alloc(); 0u8; MAX_TEXT + 1]?;
-    let mut length = 0usize;
-    let mut input = rt.stdin();
-    'chunks: for _ in 0..text.len() {
-        let count = input.read(&mut text[length..])?;
-        if count == 0 {
-            break;
-        }
-        length += count;
-    }
-    text.truncate(length);
+    let mut text = Vec::new(rt.alloc());
+    rt.stdin().take(LIMIT).read_to_end(&mut text)?;
     Ok(text)
 }
 
@@ -35,8 +29,8 @@ fn run(rt: &HostRuntime) -> anyhow::Result<bool> {
     let mut image = vec![in rt.alloc(); 0xffu8; MAX_IMAGE]?;
     let answer = fill(&text, &mut image);
     let accepted = answer.is_ok();
-    let page = report(rt.alloc(), answer)?;
-    print!(rt; "{page}")?;
+    let findings = Findings(answer);
+    print!(rt; "{findings}")?;
     Ok(accepted)
 }
 

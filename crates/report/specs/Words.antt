@@ -1,23 +1,10 @@
--- What is said of a text, and of its refusal.
+-- What is said of a text.
 use Rattle.std.specs.Prelude.{ℕ, ◌+◌, ◌/◌, ◌%◌, cond, List, [], ◌∷◌, ◌++◌, Some, None, Ok, Err, codes, decimal, Option, Result, nat_lt}
 use Rattle.ihex.specs.Faults.{refusal_number}
-use Rattle.ihex.specs.declared.fault.Reason.{Reason}
-use Rattle.ihex.specs.declared.fault.Reason.TheVariants.{MissingColon, NotADigit, WrongLength, WrongSum, UnknownType, OutOfRange, OutOfOrder, MissingEnd, AfterEnd, TooLong}
+use Rattle.ihex.specs.Sentences.{sentence_of}
 use Rattle.ihex.specs.declared.fault.HexFault.{HexFault}
 use Rattle.ihex.specs.declared.survey.Span.{Span}
 use Rattle.ihex.specs.declared.survey.Survey.{Survey}
-
-abbrev pub sentence_of : Reason → List ℕ
-sentence_of MissingColon = codes "the line does not begin with a colon"
-sentence_of NotADigit = codes "this byte is not a hexadecimal digit"
-sentence_of WrongLength = codes "the line has fewer than 10 digits, or not 10 and 2 for each byte that it counts"
-sentence_of WrongSum = codes "the bytes of the line do not add up to 0 modulo 256"
-sentence_of UnknownType = codes "the type is neither 00 (data) nor 01 (end), or an end line counts bytes"
-sentence_of OutOfRange = codes "the data reaches past the end of the image"
-sentence_of OutOfOrder = codes "the data begins below the end of the data line before it"
-sentence_of MissingEnd = codes "the text stops without an end line"
-sentence_of AfterEnd = codes "bytes follow the end line"
-sentence_of TooLong = codes "the text is longer than 1048576 bytes, or the image than 32768"
 
 -- a fact on a line of its own: a label, a colon and a space, and its value
 abbrev pub fact : List ℕ → List ℕ → List ℕ → List ℕ

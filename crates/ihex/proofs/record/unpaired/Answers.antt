@@ -9,12 +9,12 @@ use Rattle.ihex.proofs.record.unpaired.Goals as goal
 pub returns-then-run-digits : goal.returns-then-run-digits
 returns-then-run-digits c =
     let digits = c.args.digits.now in
-    let r = c.digit_run-run.ensures in
-    let at : c.args.position + 1 + c.digit_run-run.result ≡ c.args.position + (1 + prefix_len is_digit digits) = omega (arith, run_leading digits _ r) in
-    inl (run_short digits _ r c.if-run-digits.true, c.at.ensures ∙ ap (fault_at NotADigit c.args.line) at)
+    let all = run_all digits _ c.digit_run-run.ensures (omega arith) in
+    inr (all, odd_length digits c.requires.unpaired all, c.refused.ensures)
 
-pub returns-else-run-digits : goal.returns-else-run-digits
-returns-else-run-digits c =
+pub returns : goal.returns
+returns c =
     let digits = c.args.digits.now in
-    let all = run_all digits _ c.digit_run-run.ensures c.if-run-digits.false in
-    inr (all, odd_length digits c.requires.unpaired all, c.at-else-run-digits.ensures)
+    let r = c.digit_run-run.ensures in
+    let at : c.args.spot.position + 1 + c.digit_run-run.result ≡ c.args.spot.position + (1 + prefix_len is_digit digits) = omega (arith, run_leading digits _ r) in
+    inl (run_short digits _ r (omega (arith, r.within)), c.refused-2.ensures ∙ ap (fault_at NotADigit c.args.spot.line) at)

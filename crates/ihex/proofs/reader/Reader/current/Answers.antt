@@ -1,18 +1,10 @@
-use Rattle.std.proofs.Common.{◌≡◌, ◌+◌, length, Ok, Err, sym, ap, ◌∙◌, subst, arith, true-eqb, false-eqb}
-use Rattle.std.proofs.lemmas.List.{nil_from_length}
+use Rattle.std.proofs.Common.{◌≡◌, length, Ok, Err, ap, ◌∙◌, arith, false-eqb}
 use Rattle.std.proofs.lemmas.Result.{err_from_is_err_and}
 use Rattle.hextext.specs.Lines.{line_of, after_line, from_line, line}
 use Rattle.ihex.specs.Reads.{There}
-use Rattle.ihex.specs.Steps.{LineRead}
-use Rattle.ihex.proofs.Currents.{left_is, read_err, read_ok, after_is, after_more}
+use Rattle.ihex.proofs.Currents.{same_line, left_is, read_err, read_ok, after_is, after_more}
 use Rattle.ihex.proofs.reader.Reader.current.Goals as goal
 use Rattle.ihex.proofs.reader.Reader.current.Goals.{After-split_line}
-
-pub returns-then-is_empty : goal.returns-then-is_empty
-returns-then-is_empty c =
-    let self = c.args.self.now in
-    let e = left_is self.text.now self.line self.position self.at in
-    nil_from_length _ (ap length (sym e) ∙ true-eqb _ 0 c.if-is_empty.ensures)
 
 -- past the test that something is left
 there : (c : After-split_line) → There c.args.self.now.text.now c.args.self.now.line
@@ -34,20 +26,14 @@ returns-in_err-record c =
     let p = err_from_is_err_and c.from_residual.result c.from_residual.ensures.1 in
     let before = (goal.at.returns-in_err-record c).After-split_line in
     let e = c.in_err-record.field-0.0 in
-    rw (p.1, p.2) (read_err self.text.now self.line self.position self.at e (there before) (subst (λ l. LineRead l (self.line + 1) self.position (Err e)) (line_is before) c.in_err-record.ensures))
-
-pub overflow_sub-result : goal.overflow_sub-result
-overflow_sub-result c =
-    let self = c.args.self.now in
-    let before = (goal.at.overflow_sub-result c).After-split_line in
-    (after_more self.text.now self.line self.position self.at _ (there before) (rest_is before)).1
+    rw (p.1, p.2) (read_err self.text.now self.line self.position self.at e (there before) (same_line _ _ _ _ _ _ (Err e) (line_is before) c.spot.ensures.line c.spot.ensures.position c.in_err-record.ensures))
 
 pub returns : goal.returns
 returns c =
     let self = c.args.self.now in
     let before = (goal.at.returns c).After-split_line in
     let x = c.in_ok-record.record in (
-      read_ok self.text.now self.line self.position self.at x (there before) (subst (λ l. LineRead l (self.line + 1) self.position (Ok x)) (line_is before) c.in_ok-record.ensures),
+      read_ok self.text.now self.line self.position self.at x (there before) (same_line _ _ _ _ _ _ (Ok x) (line_is before) c.spot.ensures.line c.spot.ensures.position c.in_ok-record.ensures),
       after_is self.text.now self.line self.position self.at _ (rest_is before),
       (after_more self.text.now self.line self.position self.at _ (there before) (rest_is before)).0,
       omega arith,

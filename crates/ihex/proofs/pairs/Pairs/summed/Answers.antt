@@ -2,7 +2,7 @@ use Rattle.std.proofs.Common.{◌≡◌, ◌-◌, length, sum, ap, ◌∙◌, ar
 use Rattle.std.proofs.lemmas.List.Sums.{sum_by-cons}
 use Rattle.hextext.specs.Digits.{bytes_of}
 use Rattle.hextext.proofs.Pairs.{front_some, bytes_front, digits_front, digits_after}
-use Rattle.ihex.proofs.record.pair_sum.Goals as goal
+use Rattle.ihex.proofs.pairs.Pairs.summed.Goals as goal
 
 pub pairs-preserved : goal.pairs-preserved
 pairs-preserved c =

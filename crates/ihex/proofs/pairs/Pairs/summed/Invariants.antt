@@ -1,6 +1,6 @@
 use Rattle.std.proofs.Common.{◌≡◌, ◌+◌, ◌%◌, ◌<◌, length, sum}
 use Rattle.hextext.specs.Digits.{Digits, bytes_of}
-use Rattle.ihex.proofs.record.pair_sum.Given as goal
+use Rattle.ihex.proofs.pairs.Pairs.summed.Given as goal
 
 -- what is read so far is pairs of digits, and its sum stands in `sum`
 abbrev pub invariant-pairs : goal.invariant-pairs
