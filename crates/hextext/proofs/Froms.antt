@@ -44,9 +44,3 @@ from_start text n =
 
 pub from_length : (text : List ℕ) (n : ℕ) → length (from_line text n) ≤ length text
 from_length text n = let s = suffix text n in omega (arith, ap length s.1 ∙ length-drop s.0 text)
-
-pub from_next : (text : List ℕ) (n : ℕ) → from_line text (suc n) ≡ after_line (from_line text n)
-from_next text n = refl
-
-pub from_none : (text : List ℕ) → from_line text 0 ≡ text
-from_none text = refl

@@ -74,30 +74,10 @@ digits_front (h ∷ l ∷ t) b ys f d = All-cons IsDigit h (l ∷ t) f.high (All
 pub digits_after : (xs : List ℕ) (b : ℕ) (ys : List ℕ) → Front xs b ys → Digits xs → Digits ys
 digits_after xs b ys f d = subst Digits (sym f.rest) (All-drop IsDigit 2 xs d)
 
-both_digits : (h l : Option ℕ) → is_some h ≡ true → is_some l ≡ true → is_some (joined h l) ≡ true
-both_digits None l a b = a
-both_digits (Some h) None a b = b
-both_digits (Some h) (Some l) a b = refl
-
--- where it answers none, digits are too few
-pub front_none : (xs : List ℕ) → None ≡ front xs → Digits xs → length xs < 2
-front_none xs e d =
-    ⊎_elim (λ short. short)
-    (λ long.
-    let none = e ∙ cond-false _ _ _ (le-ltb (length xs) 2 long) in
-    let some = both_digits _ _ (All-get_or IsDigit xs 0 0 (omega arith) d) (All-get_or IsDigit xs 1 0 (omega arith) d) in
-    absurd (false≢true (ap is_some none ∙ some)))
-    (cases_lt (length xs) 2)
-
 pub length_bytes : (xs : List ℕ) → length (bytes_of xs) ≡ length xs / 2
 length_bytes [] = refl
 length_bytes (x ∷ []) = refl
 length_bytes (x ∷ y ∷ t) = omega (arith, length_bytes t)
-
-pub bytes_short : (xs : List ℕ) → length xs < 2 → bytes_of xs ≡ []
-bytes_short [] h = refl
-bytes_short (x ∷ []) h = refl
-bytes_short (x ∷ y ∷ t) h = absurd (omega arith)
 
 -- the bytes of a part of digits are that part of the bytes
 pub bytes_drop : (k : ℕ) (xs : List ℕ) → bytes_of (drop (2 * k) xs) ≡ drop k (bytes_of xs)

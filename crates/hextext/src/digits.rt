@@ -22,7 +22,7 @@ pub fn digit(byte: u8) -> Option<u8>
 }
 
 // The byte that two digits at the front write, and the text after them.
-pub fn take_byte<'a>(text: &'a [u8]) -> Option<(u8, &'a [u8])>
+pub fn take_byte(text: &[u8]) -> Option<(u8, &[u8])>
     ensures byte { option_map (λ p. p.0) result ≡ front text.now }
     ensures rest { IfSome result (λ p. p.1.now ≡ between 2 (length text.now) text.now) }
 {

@@ -13,14 +13,14 @@ fn line_feed(text: &[u8]) -> Option<usize>
 }
 
 // The line without a CR at its end.
-fn without_return<'a>(line: &'a [u8]) -> &'a [u8]
+fn without_return(line: &[u8]) -> &[u8]
     ensures { result.now ≡ chomped line.now }
 {
     line.strip_suffix(b"\r").unwrap_or(line)
 }
 
 // The first line of a text, without its end, and the text after it.
-pub fn split_line<'a>(text: &'a [u8]) -> (&'a [u8], &'a [u8])
+pub fn split_line(text: &[u8]) -> (&[u8], &[u8])
     ensures line { result.0.now ≡ line_of text.now }
     ensures rest { result.1.now ≡ after_line text.now }
     ensures split { Split text.now result.0.now result.1.now }

@@ -47,9 +47,6 @@ module _ (line ds : List ℕ) (is : ds ≡ drop 1 line) where
     size_is : length body + 8 ≡ length (drop 1 line)
     size_is = let e = ap length head.rest_is ∙ length-drop 8 ds in let n = ap length is in omega (arith, head.long)
 
-    pub missized : (length body ≡ 2 * h.count + 2 → ⊥) → Sized line → ⊥
-    missized ne s = ne (omega (arith, size_is, count_is, s.1))
-
     pub sized_is : length body ≡ 2 * h.count + 2 → Sized line
     sized_is e = (omega (arith, size_is), omega (arith, size_is, count_is))
 

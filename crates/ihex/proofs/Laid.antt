@@ -10,7 +10,7 @@ use Rattle.ihex.specs.declared.survey.Span.{Span}
 use Rattle.ihex.specs.declared.survey.Survey.{Survey}
 use Rattle.ihex.specs.Rules.{count, place, payload}
 use Rattle.ihex.specs.Reads.{Shown}
-use Rattle.ihex.specs.Steps.{none_noted, lowest_of, Noted, PutIn}
+use Rattle.ihex.specs.Steps.{lowest_of, Noted, PutIn}
 use Rattle.ihex.specs.Files.{floor, Placed, Covers, Shows, Given, total, Spans, Surveyed}
 
 pub record Laid (text : List ℕ) (size n f : ℕ) (s : Survey) (image : List ℕ) : Type 0 where
@@ -44,19 +44,6 @@ module _ (text : List ℕ) (size : ℕ) where
   alone n b j k a hj hk cj ck =
       ⊎_elim (λ e. e) (⊎_elim (λ less. absurd (apart n b j k a hk less cj ck)) (λ more. absurd (apart n b k j a hj more ck cj))) (cases_order j k)
 
-pub laid_none : (text image : List ℕ) → image ≡ replicate (length image) 255 → Laid text (length image) 0 0 none_noted image
-laid_none text image is = record {
-  before = λ k h. absurd (omega arith);
-  floor_is = refl;
-  long = refl;
-  shows = record {
-    given = λ k a h. absurd (omega arith);
-    alone = λ j k a h. absurd (omega arith);
-    blank = λ a h _. ap (λ l. get_or l a 0) is ∙ get_or-replicate (length image) a 255 0 h;
-  };
-  surveyed = record { records = refl; bytes = refl; span = λ a g. omega (arith, g.1) };
-}
-
 -- the data of line n
 module _ (text : List ℕ) (n q : ℕ) (d : List ℕ) (sh : Shown text n q d) where
   fits : 9 + 2 * count (line text n) ≤ length (line text n)
@@ -69,12 +56,6 @@ module _ (text : List ℕ) (n q : ℕ) (d : List ℕ) (sh : Shown text n q d) wh
 
   pub half_shown : length d / 2 ≡ count (line text n)
   half_shown = omega (arith, length_shown)
-
-  pub digits_shown : Digits d
-  digits_shown =
-      let spelt = sh.formed.formed.spelt in
-      let rest : Digits (drop 9 (line text n)) = subst Digits (drop-drop 8 1 (line text n)) (All-drop IsDigit 8 (drop 1 (line text n)) spelt) in
-      subst Digits (sym sh.of_line) (All-take IsDigit (2 * count (line text n)) (drop 9 (line text n)) rest)
 
   bytes_shown : bytes_of d ≡ payload (line text n)
   bytes_shown =

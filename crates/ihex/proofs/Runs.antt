@@ -9,14 +9,8 @@ use Rattle.hextext.proofs.Pairs.{IsDigit}
 use Rattle.ihex.specs.Pairing.{Paired}
 
 module _ (xs : List ℕ) (n : ℕ) (run : Run xs n) where
-  pub run_all : length xs ≤ n → Digits xs
-  run_all all = All-from_get_or IsDigit xs 0 (λ k h. run.digits k (omega arith))
-
   pub run_short : n < length xs → Digits xs → ⊥
   run_short less d = both_ways _ (run.stops less) (All-get_or IsDigit xs n 0 less d)
 
   pub run_leading : n ≡ prefix_len is_digit xs
   run_leading = sym (prefix_len_is is_digit xs n 0 run.within run.digits run.stops)
-
-pub odd_length : (xs : List ℕ) → (Paired xs → ⊥) → Digits xs → length xs % 2 ≡ 1
-odd_length xs none d = ⊎_elim (λ e. absurd (none (record { spelt = d; even = e }))) (⊎_elim (λ less. absurd (omega arith)) (λ more. omega arith)) (cases_order (length xs % 2) 0)

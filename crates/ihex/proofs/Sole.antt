@@ -11,7 +11,8 @@ use Rattle.ihex.specs.declared.survey.Survey.{Survey}
 use Rattle.ihex.specs.Rules.{count, place, Colon, Spelt, Sized, Summed, DataLine, EndLine}
 use Rattle.ihex.specs.Faults.{fault}
 use Rattle.ihex.specs.Reads.{There}
-use Rattle.ihex.specs.Files.{floor, Placed, Closes, Covers, Shows, Given, Spans, Surveyed, Stops, Accepted, Refused, Read, Filled}
+use Rattle.hextext.proofs.Splits.{splits}
+use Rattle.ihex.specs.Files.{Lined, floor, Placed, Closes, Covers, Shows, Given, Spans, Surveyed, Stops, Accepted, Refused, Read, Filled}
 
 -- all of these
 Holds : List (Type 0) → Type 0
@@ -203,3 +204,6 @@ sole text image r t a b p q =
   where
     both : {e : Result Survey HexFault} → (r ≡ e) × (a ≡ image) → (t ≡ e) × (b ≡ image) → (r ≡ t) × (a ≡ b)
     both x y = (x.0 ∙ sym y.0, x.1 ∙ sym y.1)
+
+pub lined : (text : List ℕ) → Lined text
+lined text n = splits (from_line text n)

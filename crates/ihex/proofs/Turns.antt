@@ -89,9 +89,6 @@ module _ (text : List ℕ) (size n f : ℕ) (s : Survey) (image : List ℕ) (l :
       named : (r : Reason) → fault_at r m p ≡ fault_at r (n + 1) (start text n)
       named r = ap (λ i. fault_at r i p) em ∙ ap (fault_at r (n + 1)) at
 
-  pub refused_none : (held : List ℕ) (p : ℕ) (e : HexFault) → held ≡ text → from_line held n ≡ [] → p ≡ start text n → e ≡ fault_at MissingEnd (n + 1) p → Refused text size e
-  refused_none held p e same none at is = stopped MissingEnd e (is ∙ ap (fault_at MissingEnd (n + 1)) at) (subst (λ t. from_line t n ≡ []) same none)
-
   pub refused_more : (m p : ℕ) (e : HexFault) → Closes text n → m ≡ n + 1 → p ≡ start text m → p < length text → e ≡ fault_at AfterEnd (m + 1) p → Refused text size e
   refused_more m p e closes em at less is =
       let line_is : m + 1 ≡ n + 2 = omega arith in

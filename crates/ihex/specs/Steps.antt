@@ -49,10 +49,7 @@ PutIn image floor n p from digits (Ok end) after =
 PutIn image floor n p from digits (Err e) after =
     ((e ≡ fault_at OutOfRange n p) × (length image < from + length digits / 2)) ⊎ ((e ≡ fault_at OutOfOrder n p) × (from + length digits / 2 ≤ length image) × (from < floor))
 
--- a survey of no record, and one that has grown by a record
-abbrev pub none_noted : Survey
-none_noted = record { records = 0; bytes = 0; span = None }
-
+-- a survey that has grown by a record
 abbrev pub lowest_of : Option Span → ℕ → ℕ
 lowest_of (Some s) place = s.lowest
 lowest_of None place = place

@@ -69,6 +69,7 @@ fn place_all(text: &[u8], image: &mut [u8]) -> Result<Survey, HexFault>
 }
 
 // Whether a text or an image is longer than the limits allow.
+#[tactic(auto, using(crate::proofs::Sole::sole, crate::proofs::Sole::lined))]
 fn too_long(text: &[u8], image: &[u8]) -> bool
     ensures test { Decides result ((1048576 < length text.now) ⊎ (32768 < length image.now)) }
     ensures sole { Sole text.now image.now }

@@ -58,7 +58,7 @@ fn unpaired(digits: &[u8], spot: Spot) -> HexFault
 }
 
 // Reads a line, given without its end, that stands at `spot`.
-pub(crate) fn read_record<'a>(line: &'a [u8], spot: Spot) -> Result<Record<'a>, HexFault>
+pub(crate) fn read_record(line: &[u8], spot: Spot) -> Result<Record<'_>, HexFault>
     requires { spot.position + length line.now < 2 ^ 64 }
     ensures { LineRead line.now spot.line spot.position result }
 {

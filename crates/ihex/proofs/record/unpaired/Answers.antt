@@ -6,12 +6,6 @@ use Rattle.ihex.specs.Faults.{fault_at}
 use Rattle.ihex.proofs.Runs.{run_leading, run_all, run_short, odd_length}
 use Rattle.ihex.proofs.record.unpaired.Goals as goal
 
-pub returns-then-run-digits : goal.returns-then-run-digits
-returns-then-run-digits c =
-    let digits = c.args.digits.now in
-    let all = run_all digits _ c.digit_run-run.ensures (omega arith) in
-    inr (all, odd_length digits c.requires.unpaired all, c.refused.ensures)
-
 pub returns : goal.returns
 returns c =
     let digits = c.args.digits.now in
