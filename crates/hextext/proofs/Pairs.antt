@@ -3,8 +3,8 @@ use Rattle.std.proofs.Common.{◌≡◌, ℕ, zero, suc, ◌*◌, ◌/◌, ◌<�
 use Rattle.std.specs.Int.{is_in_range}
 use Rattle.std.specs.List.{between}
 use Rattle.std.proofs.lemmas.List.{take_rest}
-use Rattle.std.proofs.lemmas.List.Elements.{All-cons, All-drop, All-get_or}
-use Rattle.std.proofs.lemmas.Bool.{cond_both, cond-true, cond-false, and_parts, leb-true, lt-ltb, le-ltb, cases_lt, false≢true}
+use Rattle.std.proofs.lemmas.List.Elements.{All-cons, All-drop}
+use Rattle.std.proofs.lemmas.Bool.{cond_both, cond-true, cond-false, and_parts, leb-true, lt-ltb, le-ltb, cases_lt}
 use Rattle.hextext.specs.Digits.{digit_value, is_digit, Coded, Digits, joined, pair, front, bytes_of}
 
 -- a byte that is a digit

@@ -1,10 +1,9 @@
 -- Taking bytes from the front of pairs of digits.
-use Rattle.std.proofs.Common.{◌≡◌, ℕ, ◌+◌, ◌-◌, List, length, drop, Some, None, ap, ◌∙◌, arith, length-drop}
+use Rattle.std.proofs.Common.{◌≡◌, ℕ, ◌-◌, List, length, Some, ap, ◌∙◌, arith, length-drop}
 use Rattle.std.specs.List.{between}
-use Rattle.std.proofs.lemmas.List.{drop-drop}
 use Rattle.hextext.specs.Digits.{front}
-use Rattle.hextext.proofs.Pairs.{front_some, bytes_front, digits_after}
-use Rattle.ihex.specs.Pairing.{Paired, Taken}
+use Rattle.hextext.proofs.Pairs.{front_some, digits_after}
+use Rattle.ihex.specs.Pairing.{Paired}
 
 -- what `take_byte` leaves of pairs of digits is pairs again
 pub paired_after : (xs : List ℕ) (b : ℕ) (ys : List ℕ) → Paired xs → Some b ≡ front xs → ys ≡ between 2 (length xs) xs → Paired ys

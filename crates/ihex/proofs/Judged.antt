@@ -15,7 +15,7 @@ pub broken_read : (line : List ℕ) (r : Reason) (n p : ℕ) (e : HexFault) → 
 broken_read line r n p e is b z = subst (λ f. LineRead line n p (Err f)) (sym is) (b, refl, sym (ap (λ k. p + k) z ∙ add-zero p))
 
 -- ds is what follows the first byte of the line
-module _ (line ds : List ℕ) (is : ds ≡ drop 1 line) where
+module _ (line : List ℕ) {ds : List ℕ} (is : ds ≡ drop 1 line) where
   pub spelt_is : Digits ds → Spelt line
   spelt_is d = subst Digits is d
 
@@ -31,7 +31,7 @@ module _ (line ds : List ℕ) (is : ds ≡ drop 1 line) where
   pub summed_is : (s : ℕ) → s ≡ sum (bytes_of ds) % 256 → s ≡ sum (bytes line) % 256
   summed_is s e = e ∙ ap (λ l. sum (bytes_of l) % 256) is
 
-  module _ (h : Header) (body : List ℕ) (head : Headed ds h body) where
+  module _ {h : Header} {body : List ℕ} (head : Headed ds h body) where
     bytes_is : bytes line ≡ h.count ∷ (head.bytes.0 ∷ (head.bytes.1 ∷ (h.kind ∷ bytes_of body)))
     bytes_is = ap bytes_of (sym is) ∙ head.bytes.2
 

@@ -1,11 +1,10 @@
 -- The lines that are read so far, and the image that shows them.
-use Rattle.std.proofs.Common.{◌≡◌, ℕ, zero, suc, ◌+◌, ◌-◌, ◌*◌, ◌/◌, ◌<◌, ◌≤◌, ◌⊎◌, List, length, get_or, take, drop, replicate, Some, None, Ok, Option, sym, refl, ap, ◌∙◌, subst, inl, inr, ⊎_elim, add-one, arith, length-drop}
-use Rattle.std.proofs.lemmas.List.{get_or-replicate, drop-drop, length-take-le}
-use Rattle.std.proofs.lemmas.List.Elements.{All-take, All-drop}
+use Rattle.std.proofs.Common.{◌≡◌, ℕ, zero, suc, ◌+◌, ◌-◌, ◌*◌, ◌/◌, ◌<◌, ◌≤◌, ◌⊎◌, List, length, get_or, take, drop, Some, None, Ok, Option, sym, ap, ◌∙◌, subst, inl, inr, ⊎_elim, add-one, arith, length-drop}
+use Rattle.std.proofs.lemmas.List.{drop-drop, length-take-le}
 use Rattle.std.proofs.lemmas.Bool.{cases_lt, cases_order}
-use Rattle.hextext.specs.Digits.{Digits, bytes_of}
+use Rattle.hextext.specs.Digits.{bytes_of}
 use Rattle.hextext.specs.Lines.{line}
-use Rattle.hextext.proofs.Pairs.{IsDigit, bytes_drop, bytes_take}
+use Rattle.hextext.proofs.Pairs.{bytes_drop, bytes_take}
 use Rattle.ihex.specs.declared.survey.Span.{Span}
 use Rattle.ihex.specs.declared.survey.Survey.{Survey}
 use Rattle.ihex.specs.Rules.{count, place, payload}
@@ -65,7 +64,7 @@ module _ (text : List ℕ) (n q : ℕ) (d : List ℕ) (sh : Shown text n q d) wh
       ∙ ap (take (count (line text n))) (bytes_drop 4 (drop 1 (line text n)))
 
 -- one data line more
-module _ (text : List ℕ) (size n f q end : ℕ) (s t : Survey) (image after d : List ℕ) (l : Laid text size n f s image) (sh : Shown text n q d) (p : PutIn image f 0 0 q d (Ok end) after) (same : length after ≡ length image) (noted : Noted s q (length d / 2) t) where
+module _ {text : List ℕ} {size n f q end : ℕ} {s t : Survey} {image after d : List ℕ} (l : Laid text size n f s image) (sh : Shown text n q d) (p : PutIn image f 0 0 q d (Ok end) after) (same : length after ≡ length image) (noted : Noted s q (length d / 2) t) where
   c_is : length d / 2 ≡ count (line text n)
   c_is = half_shown text n q d sh
 

@@ -1,12 +1,11 @@
 -- How far the digits at the front reach.
-use Rattle.std.proofs.Common.{◌≡◌, ℕ, ◌%◌, ◌<◌, ◌≤◌, List, length, sym, ⊎_elim, arith}
+use Rattle.std.proofs.Common.{◌≡◌, ℕ, ◌<◌, List, length, sym}
 use Rattle.std.specs.List.{prefix_len}
-use Rattle.std.proofs.lemmas.List.Elements.{All-get_or, All-from_get_or}
+use Rattle.std.proofs.lemmas.List.Elements.{All-get_or}
 use Rattle.std.proofs.lemmas.List.Sums.{prefix_len_is}
-use Rattle.std.proofs.lemmas.Bool.{both_ways, cases_order}
+use Rattle.std.proofs.lemmas.Bool.{both_ways}
 use Rattle.hextext.specs.Digits.{is_digit, Digits, Run}
 use Rattle.hextext.proofs.Pairs.{IsDigit}
-use Rattle.ihex.specs.Pairing.{Paired}
 
 module _ (xs : List ℕ) (n : ℕ) (run : Run xs n) where
   pub run_short : n < length xs → Digits xs → ⊥

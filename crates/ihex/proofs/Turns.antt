@@ -1,5 +1,5 @@
 -- What each answer of the reader means for the text as a whole.
-use Rattle.std.proofs.Common.{◌≡◌, ℕ, suc, ◌+◌, ◌<◌, ◌≤◌, List, [], length, Some, Ok, Err, Option, sym, refl, ap, ◌∙◌, subst, ⊎_elim, add-one, arith}
+use Rattle.std.proofs.Common.{◌≡◌, ℕ, suc, ◌+◌, ◌<◌, ◌≤◌, List, length, Some, Ok, Err, Option, sym, refl, ap, ◌∙◌, subst, ⊎_elim, add-one, arith}
 use Rattle.std.proofs.lemmas.List.{nil_from_length}
 use Rattle.hextext.specs.Lines.{from_line, line, start}
 use Rattle.hextext.proofs.Froms.{from_length, after_shorter}
@@ -47,7 +47,7 @@ stops_of MissingEnd text size n there b = absurd b
 stops_of AfterEnd text size n there b = absurd b
 stops_of TooLong text size n there b = absurd b
 
-module _ (text : List ℕ) (size n f : ℕ) (s : Survey) (image : List ℕ) (l : Laid text size n f s image) where
+module _ {text : List ℕ} {size n f : ℕ} {s : Survey} {image : List ℕ} (l : Laid text size n f s image) where
   pub refused_line : (held : List ℕ) (e : HexFault) → held ≡ text → Next held n (Err e) → Refused text size e
   refused_line held e is answer =
       let p = subst (λ t. Next t n (Err e)) is answer in

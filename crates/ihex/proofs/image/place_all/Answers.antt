@@ -1,4 +1,4 @@
-use Rattle.std.proofs.Common.{◌≡◌, ◌+◌, length, Some, ap, ◌∙◌, subst, arith}
+use Rattle.std.proofs.Common.{◌≡◌, ◌+◌, Some, ap, ◌∙◌, subst, arith}
 use Rattle.std.proofs.lemmas.Result.{err_from_is_err_and}
 use Rattle.hextext.specs.Lines.{start}
 use Rattle.ihex.specs.declared.record.Record.TheVariants.{Data, End}
@@ -17,7 +17,7 @@ returns-in_err-place c =
     let inv = c.records.invariant in
     let p = err_from_is_err_and c.from_residual.result c.from_residual.ensures.1 in
     let e = c.in_err-place.field-0.0 in
-    rw (p.1, p.2) (refused_line c.args.text.now (length c.args.image.now) c.records.reader.line c.records.floor c.records.survey c.records.image inv.1 c.records.reader.text.now e inv.0 c.in_err-place.ensures.answer)
+    rw (p.1, p.2) (refused_line inv.1 c.records.reader.text.now e inv.0 c.in_err-place.ensures.answer)
 
 -- at a data record
 is_data : (c : In-Some-Data) → c.in_ok-place.field-0 ≡ Some (Data c.in-Some-Data.place c.in-Some-Data.pairs)
@@ -45,7 +45,7 @@ returns-in_err-floor-in-Some-Data c =
     let at = (goal.at.returns-in_err-floor-in-Some-Data c).In-Some-Data in
     let p = err_from_is_err_and c.from_residual-in_err-floor-in-Some-Data.result c.from_residual-in_err-floor-in-Some-Data.ensures.1 in
     let e = c.in_err-floor-in-Some-Data.field-0.0 in
-    rw (p.1, p.2) (refused_put c.args.text.now (length c.args.image.now) c.records.reader.line c.records.floor c.records.survey c.records.image c.records.invariant.1 c.in-Some-Data.place c.spot-spot.result.line c.spot-spot.result.position c.in-Some-Data.pairs.digits.now c.put.new.image e (shown at) c.spot-spot.ensures.line (c.spot-spot.ensures.position ∙ stood at) c.in_err-floor-in-Some-Data.ensures)
+    rw (p.1, p.2) (refused_put c.records.invariant.1 c.in-Some-Data.place c.spot-spot.result.line c.spot-spot.result.position c.in-Some-Data.pairs.digits.now c.put.new.image e (shown at) c.spot-spot.ensures.line (c.spot-spot.ensures.position ∙ stood at) c.in_err-floor-in-Some-Data.ensures)
 
 pub with-survey-requires-clause-bytes : goal.with-survey-requires-clause-bytes
 with-survey-requires-clause-bytes c =
@@ -67,7 +67,7 @@ records-preserved c =
     let at = (goal.at.records-preserved c).In-Some-Data in
     let digits = c.in-Some-Data.pairs.digits.now in (
       same_text at,
-      rw (moved at) (laid_more c.args.text.now (length c.args.image.now) c.records.reader.line c.records.floor c.in-Some-Data.place c.in_ok-floor-in-Some-Data.floor c.records.survey c.with-survey.result c.records.image c.put.new.image digits c.records.invariant.1 (shown at) c.in_ok-floor-in-Some-Data.ensures (omega arith) (subst (λ n. Noted c.records.survey c.in-Some-Data.place n c.with-survey.result) c.len.ensures c.with-survey.ensures)),
+      rw (moved at) (laid_more c.records.invariant.1 (shown at) c.in_ok-floor-in-Some-Data.ensures (omega arith) (subst (λ n. Noted c.records.survey c.in-Some-Data.place n c.with-survey.result) c.len.ensures c.with-survey.ensures)),
     )
 
 -- at an end record
@@ -87,9 +87,9 @@ pub returns-then-reader-text : goal.returns-then-reader-text
 returns-then-reader-text c =
     let at = (goal.at.returns-then-reader-text c).In-Some-End in
     let named = ap (λ n. fault_at AfterEnd n c.spot.result.position) c.spot.ensures.line ∙ ap (fault_at AfterEnd (c.next.new.self.line + 1)) c.spot.ensures.position in
-    refused_more c.args.text.now (length c.args.image.now) c.records.reader.line c.records.floor c.records.survey c.records.image c.records.invariant.1 c.next.new.self.line c.next.new.self.position c.refused.result (closes at) (ended at) (ends at) (omega arith) (c.refused.ensures ∙ named)
+    refused_more c.records.invariant.1 c.next.new.self.line c.next.new.self.position c.refused.result (closes at) (ended at) (ends at) (omega arith) (c.refused.ensures ∙ named)
 
 pub returns-in-Some-End : goal.returns-in-Some-End
 returns-in-Some-End c =
     let at = (goal.at.returns-in-Some-End c).In-Some-End in
-    accepted c.args.text.now (length c.args.image.now) c.records.reader.line c.records.floor c.records.survey c.records.image c.records.invariant.1 c.next.new.self.line c.next.new.self.position (closes at) (ended at) (ends at) (omega arith)
+    accepted c.records.invariant.1 c.next.new.self.line c.next.new.self.position (closes at) (ended at) (ends at) (omega arith)

@@ -1,9 +1,9 @@
-use Rattle.std.proofs.Common.{◌≡◌, ◌+◌, ap, ◌∙◌, inl, inr, arith}
+use Rattle.std.proofs.Common.{◌≡◌, ◌+◌, ap, ◌∙◌, inl, arith}
 use Rattle.std.specs.List.{prefix_len}
 use Rattle.hextext.specs.Digits.{is_digit}
 use Rattle.ihex.specs.declared.fault.Reason.TheVariants.{NotADigit}
 use Rattle.ihex.specs.Faults.{fault_at}
-use Rattle.ihex.proofs.Runs.{run_leading, run_all, run_short, odd_length}
+use Rattle.ihex.proofs.Runs.{run_leading, run_short}
 use Rattle.ihex.proofs.record.unpaired.Goals as goal
 
 pub returns : goal.returns
