@@ -68,24 +68,15 @@ fn place_all(text: &[u8], image: &mut [u8]) -> Result<Survey, HexFault>
     }
 }
 
-// Whether a text or an image is longer than the limits allow.
-#[tactic(auto, using(crate::proofs::Sole::sole, crate::proofs::Sole::lined))]
-fn too_long(text: &[u8], image: &[u8]) -> bool
-    ensures test { Decides result ((1048576 < length text.now) ⊎ (32768 < length image.now)) }
-    ensures sole { Sole text.now image.now }
-    ensures lined { Lined text.now }
-{
-    text.len() > MAX_TEXT || image.len() > MAX_IMAGE
-}
-
 // Reads a text into an image, which then shows at each place the byte that the text has for it, and FFh where it has
 // none. A refused text leaves the whole image FFh; one that is too long, or an image that is, leaves it untouched.
+#[tactic(auto, using(crate::proofs::Sole::sole, crate::proofs::Sole::lined))]
 pub fn fill(text: &[u8], image: &mut [u8]) -> Result<Survey, HexFault>
     ensures read { Filled text.now image.old result image.new }
     ensures sole { Sole text.now image.old }
     ensures lined { Lined text.now }
 {
-    if too_long(text, image) {
+    if text.len() > MAX_TEXT || image.len() > MAX_IMAGE {
         return Err(HexFault {
             reason: Reason::TooLong,
             line: 0,
