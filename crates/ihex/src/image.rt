@@ -50,6 +50,7 @@ fn place_all(text: &[u8], image: &mut [u8]) -> Result<Survey, HexFault>
     let mut reader = Reader::new(text);
     let mut survey = Survey::default();
     let mut floor = 0;
+    // No `for`: a reader gives a refusal again and again, so as an iterator it would have no end.
     'records: loop {
         let spot = reader.spot();
         match reader.next()? {

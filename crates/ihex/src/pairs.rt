@@ -17,6 +17,7 @@ impl<'a> Pairs<'a> {
     pub(crate) fn summed(digits: &'a [u8]) -> Option<(Pairs<'a>, u8)>
         ensures { MatchOption result (Paired digits.now → ⊥) (λ p. (p.0.digits ≡ digits.entry) × (p.1 ≡ sum (bytes_of p.0.digits.now) % 256)) }
     {
+        // Not over chunks of two digits: what is left in the end tells whether all were pairs.
         let mut sum: u8 = 0;
         let mut rest = digits;
         'pairs: while let Some((byte, after)) = take_byte(rest) {
@@ -60,6 +61,7 @@ impl<'a> Pairs<'a> {
         requires { length self.digits.now ≡ 2 * length part.old }
         ensures { part.new ≡ bytes_of self.entry.digits.now }
     {
+        // Not zipped with the part: a proof knows nothing of what is written through an adapter of `iter_mut`.
         let mut rest = self;
         'pairs: for byte in part.iter_mut() {
             let Some((value, after)) = rest.split_first() else {

@@ -18,7 +18,8 @@ const DATA: u8 = 0;
 
 const END: u8 = 1;
 
-// What stands before the data of a line. Its type is told apart in one place, where it becomes a `Record`.
+// What stands before the data of a line. The type is a number until `read_record` has judged the rules that come before
+// it, and becomes a `Record` there, in the one match on it.
 #[derive(Clone, Copy)]
 struct Header {
     count: u8,

@@ -29,6 +29,7 @@ impl Survey {
             return Survey { records, ..self };
         }
         let lowest = self.span.map_or(place, |span| span.lowest);
+        // A cast that the prover shows to lose nothing; `try_from` would have an error that never comes.
         let highest = (usize::from(place) + count - 1) as u16;
         Survey {
             records,

@@ -8,7 +8,7 @@ use std::io::Read;
 use std::process::ExitCode;
 use std::{env, io};
 
-// One byte more than a text may have.
+// One byte more than a text may have. A cast, since a constant calls no function.
 const LIMIT: u64 = MAX_TEXT as u64 + 1;
 
 // Reads standard input until it ends, or until there is one byte more than a text may have.

@@ -73,10 +73,10 @@ impl fmt::Display for Findings {
 }
 
 // The same as a text of its own.
-pub fn report(heap: Global, answer: Result<Survey, HexFault>) -> Result<String, AllocError>
+pub fn report(alloc: Global, answer: Result<Survey, HexFault>) -> Result<String, AllocError>
     ensures { IfOk result (λ s. string_bytes s ≡ report_text answer) }
 {
-    Findings(answer).to_string(heap)
+    Findings(answer).to_string(alloc)
 }
 
 #[cfg(test)]
