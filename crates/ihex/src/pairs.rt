@@ -5,7 +5,7 @@ ghost use Rattle.ihex.specs.Pairing.{Paired, Taken};
 use hextext::take_byte;
 
 // Pairs of digits, and nothing else: two to a byte.
-#[derive(Clone, Copy, Debug)]
+#[derive(Clone, Copy, Debug, PartialEq)]
 pub struct Pairs<'a> {
     pub digits: &'a [u8],
     ghost paired: { Paired digits.now },

@@ -7,7 +7,7 @@ use crate::pairs::Pairs;
 use hextext::digit_run;
 
 // What a line says: bytes for a place, as the digits that write them, or that the text ends.
-#[derive(Clone, Copy, Debug)]
+#[derive(Clone, Copy, Debug, PartialEq)]
 pub enum Record<'a> {
     Data { place: u16, pairs: Pairs<'a> },
     End,

@@ -301,23 +301,23 @@ mod tests {
         let mut reader = Reader::new(b":03001000050AFFDF\r\n:01001300fFed\n:00000001FF");
         gives(&rt, &mut reader, 0x10, b"050AFF")?;
         gives(&rt, &mut reader, 0x13, b"fF")?;
-        assert!(rt; matches!(reader.next()?, Some(Record::End)));
-        assert!(rt; matches!(reader.next()?, None));
-        assert!(rt; matches!(reader.next()?, None));
+        assert_eq!(rt; reader.next()?, Some(Record::End));
+        assert_eq!(rt; reader.next()?, None);
+        assert_eq!(rt; reader.next()?, None);
         Ok(())
     }
 
     #[test]
     fn a_reader_stays_at_a_line_that_it_refuses(rt: HostRuntime) -> Result<(), Fail> {
         let mut reader = Reader::new(b":00000001FF\n:00000000x0\n");
-        assert!(rt; matches!(reader.next()?, Some(Record::End)));
+        assert_eq!(rt; reader.next()?, Some(Record::End));
         let fault = HexFault {
             reason: Reason::NotADigit,
             line: 2,
             position: 21,
         };
-        assert_eq!(rt; reader.next().err(), Some(fault));
-        assert_eq!(rt; reader.next().err(), Some(fault));
+        assert_eq!(rt; reader.next(), Err(fault));
+        assert_eq!(rt; reader.next(), Err(fault));
         Ok(())
     }
 
