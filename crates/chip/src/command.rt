@@ -1,15 +1,52 @@
-// The bytes that the command register takes.
-pub const READ: u8 = 0x00;
+// The commands, and the bytes that stand for them.
+ghost use Rattle.std.specs.Prelude.{◌≡◌, ◌++◌, Some, codes, decimal};
+ghost use Rattle.chip.specs.Commands.{Stands};
 
-pub const SIGN: u8 = 0x90;
+use std::error::Error;
+use std::fmt;
 
-// Written twice: the setup, then the pulse.
-pub const ERASE: u8 = 0x20;
+// What the command register takes where no setup awaits its second byte.
+#[derive(Clone, Copy, Debug, PartialEq)]
+pub enum Command {
+    Read,
+    Sign,
+    // Written twice: the setup, then the pulse.
+    Erase,
+    Program,
+    EraseVerify,
+    ProgramVerify,
+    Reset,
+}
 
-pub const PROGRAM: u8 = 0x40;
+// A byte that stands for no command.
+#[derive(Clone, Copy, Debug, PartialEq)]
+pub struct NoCommand(pub u8);
 
-pub const ERASE_VERIFY: u8 = 0xA0;
+impl TryFrom<u8> for Command {
+    type Error = NoCommand;
 
-pub const PROGRAM_VERIFY: u8 = 0xC0;
+    ghost try_from_gives = { Stands };
 
-pub const RESET: u8 = 0xFF;
+    fn try_from(byte: u8) -> Result<Command, NoCommand> {
+        match byte {
+            0x00 => Ok(Command::Read),
+            0x90 => Ok(Command::Sign),
+            0x20 => Ok(Command::Erase),
+            0x40 => Ok(Command::Program),
+            0xA0 => Ok(Command::EraseVerify),
+            0xC0 => Ok(Command::ProgramVerify),
+            0xFF => Ok(Command::Reset),
+            _ => Err(NoCommand(byte)),
+        }
+    }
+}
+
+impl fmt::Display for NoCommand {
+    ghost output = { λ e. Some (codes "no command has the byte " ++ decimal e.0) };
+
+    fn fmt<W: fmt::Write>(&self, f: &mut fmt::Formatter<W>) -> fmt::Result {
+        write!(f, "no command has the byte {}", self.0)
+    }
+}
+
+impl Error for NoCommand {}

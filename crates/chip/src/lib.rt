@@ -2,11 +2,12 @@
 #![tactic(auto)]
 
 mod bus;
-pub mod command;
+mod command;
 mod runs;
 mod state;
 pub mod timing;
 
 pub use bus::Chip;
+pub use command::{Command, NoCommand};
 pub use runs::capacity;
-pub use state::{Code, Marks, Mode, Run, Tallies, Turn, Voltage};
+pub use state::{Code, Marks, Mode, Run, Signature, Tallies, Turn, Voltage};

@@ -5,6 +5,7 @@ ghost use Rattle.chip.specs.Rules.{Sized, Ordered};
 
 use crate::bus::Chip;
 
+// A function of its own: what is proved of runs by hand is handed on, and `capacity` itself needs no proof by hand.
 fn places<C: Chip>(chip: &C) -> u16
     ensures places { result ≡ (C.Chip.meaning chip.now).size }
     ensures sized { Sized (C.Chip.meaning chip.now).size }

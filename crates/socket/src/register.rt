@@ -1,12 +1,12 @@
 // What a simulated chip keeps besides its cells, and what a cycle makes of it.
-ghost use Rattle.std.specs.Prelude.{◌≡◌, true, ◌%◌};
+ghost use Rattle.std.specs.Prelude.{◌≡◌, ℕ, true, ◌%◌};
 ghost use Rattle.chip.specs.Rules.{after, wait, after_short, after_program, after_erase, resets, commanded, chosen, timed};
 ghost use Rattle.socket.specs.Registers.{kept, fresh, pulse_ended, told, powered};
 
 use chip::timing::{ERASE_PULSE, PROGRAM_PULSE};
-use chip::{Marks, Mode, Run, Tallies, Turn, Voltage, command};
+use chip::{Command, Marks, Mode, Voltage};
 
-#[derive(Clone, Copy)]
+#[derive(Clone, Copy, Debug, Default, PartialEq)]
 pub struct CommandRegister {
     pub marks: Marks,
     pub voltage: Voltage,
@@ -17,87 +17,71 @@ pub struct CommandRegister {
 fn wrapped(address: u16, size: u16) -> u16
     ensures { result ≡ address % size }
 {
-    if size == 0 { address } else { address % size }
+    address.checked_rem(size).unwrap_or(address)
 }
 
-fn after_short(marks: Marks) -> Marks
+fn after_short(mut marks: Marks) -> Marks
     ensures { result ≡ after_short marks }
 {
-    let Marks { tallies, turn, run } = marks;
-    Marks {
-        tallies: Tallies {
-            short: tallies.short.wrapping_add(1),
-            ..tallies
-        },
-        turn,
-        run,
-    }
+    marks.tallies.short = marks.tallies.short.wrapping_add(1);
+    marks
 }
 
-fn after_program(marks: Marks, size: u16, place: u16) -> Marks
+fn after_program(mut marks: Marks, size: u16, place: u16) -> Marks
     ensures { result ≡ after_program size place marks }
 {
-    let Marks { tallies, turn, run } = marks;
     let place = wrapped(place, size);
-    let length = if place == wrapped(turn.place, size) {
-        turn.length.saturating_add(1)
+    let same = place == wrapped(marks.turn.place, size);
+    marks.tallies.program = marks.tallies.program.wrapping_add(1);
+    marks.turn.place = place;
+    marks.turn.length = if same {
+        marks.turn.length.saturating_add(1)
     } else {
         1
     };
-    Marks {
-        tallies: Tallies {
-            program: tallies.program.wrapping_add(1),
-            ..tallies
-        },
-        turn: Turn {
-            place,
-            length,
-            longest: turn.longest.max(length),
-        },
-        run: Run { length: 0, ..run },
-    }
+    marks.turn.longest = marks.turn.longest.max(marks.turn.length);
+    marks.run.length = 0;
+    marks
 }
 
-fn after_erase(marks: Marks, zeroed: bool) -> Marks
+fn after_erase(mut marks: Marks, zeroed: bool) -> Marks
     ensures { result ≡ after_erase zeroed marks }
 {
-    let Marks { tallies, turn, run } = marks;
-    let opened = run.length == 0;
-    let hard = if opened && !zeroed {
-        tallies.hard.wrapping_add(1)
-    } else {
-        tallies.hard
-    };
-    let length = run.length.saturating_add(1);
-    Marks {
-        tallies: Tallies {
-            erase: tallies.erase.wrapping_add(1),
-            hard,
-            ..tallies
-        },
-        turn: Turn { length: 0, ..turn },
-        run: Run {
-            length,
-            longest: run.longest.max(length),
-        },
+    if marks.run.length == 0 && !zeroed {
+        marks.tallies.hard = marks.tallies.hard.wrapping_add(1);
+    }
+    marks.tallies.erase = marks.tallies.erase.wrapping_add(1);
+    marks.turn.length = 0;
+    marks.run.length = marks.run.length.saturating_add(1);
+    marks.run.longest = marks.run.longest.max(marks.run.length);
+    marks
+}
+
+// The mode that a byte gives at a place where no setup awaits its second byte.
+fn commanded(place: u16, byte: u8, verifying: Mode) -> Mode
+    ensures { (n a : ℕ) → place ≡ a % n → result ≡ commanded n a byte verifying }
+{
+    match Command::try_from(byte) {
+        Ok(Command::Read) => Mode::Read,
+        Ok(Command::Sign) => Mode::Sign,
+        Ok(Command::Erase) => Mode::EraseSetup,
+        Ok(Command::Program) => Mode::ProgramSetup,
+        Ok(Command::EraseVerify) => Mode::EraseVerify { place, time: 0 },
+        Ok(Command::ProgramVerify) => verifying,
+        Ok(Command::Reset) | Err(_) => Mode::Idle,
     }
 }
 
-// The mode that a command gives where no setup awaits its second byte.
-fn commanded(size: u16, address: u16, byte: u8, verifying: Mode) -> Mode
-    ensures { result ≡ commanded size address byte verifying }
+// An arm for each mode that has a time: in one pattern, as alternatives, the proof loses which of them it was.
+fn let_pass(mode: &mut Mode, micros: u16)
+    ensures { mode.new ≡ timed micros mode.old }
 {
-    match byte {
-        command::READ => Mode::Read,
-        command::SIGN => Mode::Sign,
-        command::ERASE => Mode::EraseSetup,
-        command::PROGRAM => Mode::ProgramSetup,
-        command::ERASE_VERIFY => Mode::EraseVerify {
-            place: wrapped(address, size),
-            time: 0,
-        },
-        command::PROGRAM_VERIFY => verifying,
-        _ => Mode::Idle,
+    match mode {
+        Mode::Programming { time, .. } => *time = time.saturating_add(micros),
+        Mode::ProgramVerify { time, .. } => *time = time.saturating_add(micros),
+        Mode::Erasing { time } => *time = time.saturating_add(micros),
+        Mode::EraseVerify { time, .. } => *time = time.saturating_add(micros),
+        _ => {}
     }
 }
 
@@ -106,23 +90,7 @@ impl CommandRegister {
         ensures { kept result ≡ fresh }
     {
         CommandRegister {
-            marks: Marks {
-                tallies: Tallies {
-                    program: 0,
-                    erase: 0,
-                    short: 0,
-                    hard: 0,
-                },
-                turn: Turn {
-                    place: 0,
-                    length: 0,
-                    longest: 0,
-                },
-                run: Run {
-                    length: 0,
-                    longest: 0,
-                },
-            },
+            marks: Marks::default(),
             voltage: Voltage::Low,
             mode: Mode::Read,
         }
@@ -133,11 +101,7 @@ impl CommandRegister {
         ensures { kept result ≡ pulse_ended size zeroed (kept self) }
     {
         let marks = match self.mode {
-            Mode::Programming {
-                place,
-                byte: _,
-                time,
-            } => {
+            Mode::Programming { place, time, .. } => {
                 if time < PROGRAM_PULSE {
                     after_short(self.marks)
                 } else {
@@ -161,73 +125,39 @@ impl CommandRegister {
     {
         match self.mode {
             Mode::ProgramSetup | Mode::EraseSetup => false,
-            _ => byte == command::RESET,
+            _ => matches!(Command::try_from(byte), Ok(Command::Reset)),
         }
     }
 
-    fn chosen(self, size: u16, address: u16, byte: u8) -> Mode
-        ensures { result ≡ chosen size address byte self.mode }
+    fn chosen(self, at: u16, byte: u8) -> Mode
+        ensures { (n a : ℕ) → at ≡ a % n → result ≡ chosen n a byte self.mode }
     {
         match self.mode {
             Mode::ProgramSetup => Mode::Programming {
-                place: wrapped(address, size),
+                place: at,
                 byte,
                 time: 0,
             },
-            Mode::EraseSetup if byte == command::ERASE => Mode::Erasing { time: 0 },
-            Mode::EraseSetup => Mode::Idle,
-            Mode::Programming {
-                place,
-                byte: _,
-                time: _,
-            } => { commanded(size, address, byte, Mode::ProgramVerify { place, time: 0 }) }
-            _ => commanded(size, address, byte, Mode::Idle),
-        }
-    }
-
-    fn timed(self, micros: u16) -> Mode
-        ensures { result ≡ timed micros self.mode }
-    {
-        match self.mode {
-            Mode::Programming { place, byte, time } => {
-                Mode::Programming {
-                    place,
-                    byte,
-                    time: time.saturating_add(micros),
-                }
-            }
-            Mode::ProgramVerify { place, time } => {
-                Mode::ProgramVerify {
-                    place,
-                    time: time.saturating_add(micros),
-                }
-            }
-            Mode::Erasing { time } => Mode::Erasing {
-                time: time.saturating_add(micros),
+            Mode::EraseSetup => match Command::try_from(byte) {
+                Ok(Command::Erase) => Mode::Erasing { time: 0 },
+                _ => Mode::Idle,
             },
-            Mode::EraseVerify { place, time } => {
-                Mode::EraseVerify {
-                    place,
-                    time: time.saturating_add(micros),
-                }
+            Mode::Programming { place, .. } => {
+                commanded(at, byte, Mode::ProgramVerify { place, time: 0 })
             }
-            untimed => untimed,
+            _ => commanded(at, byte, Mode::Idle),
         }
     }
 
     // A byte is written at high voltage, after the pulse that was open.
-    pub fn told(self, size: u16, address: u16, byte: u8) -> CommandRegister
+    pub fn told(mut self, size: u16, address: u16, byte: u8) -> CommandRegister
         ensures { kept result ≡ told size address byte (kept self) }
     {
-        let mut marks = self.marks;
         if self.resets(byte) {
-            marks.turn.length = 0;
+            self.marks.turn.length = 0;
         }
-        CommandRegister {
-            marks,
-            voltage: self.voltage,
-            mode: self.chosen(size, address, byte),
-        }
+        self.mode = self.chosen(wrapped(address, size), byte);
+        self
     }
 
     // The voltage is set, after the pulse that was open.
@@ -242,12 +172,10 @@ impl CommandRegister {
     }
 
     // Time passes, whatever the size and the cells are.
-    pub fn waited(self, micros: u16) -> CommandRegister
+    pub fn waited(mut self, micros: u16) -> CommandRegister
         ensures { kept result ≡ after 0 true (wait micros) (kept self) }
     {
-        CommandRegister {
-            mode: self.timed(micros),
-            ..self
-        }
+        let_pass(&mut self.mode, micros);
+        self
     }
 }

@@ -16,7 +16,7 @@ pub const FLOATING: u8 = 0xFF;
 // What a signature cycle reads where no chip answers.
 pub const NO_CODE: u8 = 0xFF;
 
-#[derive(Clone, Copy)]
+#[derive(Clone, Copy, Debug, Default, PartialEq)]
 pub struct EmptySocket {
     pub register: CommandRegister,
 }
@@ -47,12 +47,9 @@ impl Chip for EmptySocket {
     }
 
     fn write_cycle(&mut self, address: u16, byte: u8) {
-        match self.register.voltage {
-            Voltage::Low => {}
-            Voltage::High => {
-                let ended = self.register.pulse_ended(SOCKET_SIZE, false);
-                self.register = ended.told(SOCKET_SIZE, address, byte);
-            }
+        if self.register.voltage == Voltage::High {
+            let ended = self.register.pulse_ended(SOCKET_SIZE, false);
+            self.register = ended.told(SOCKET_SIZE, address, byte);
         }
     }
 
