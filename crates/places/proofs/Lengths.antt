@@ -1,5 +1,9 @@
 -- The lengths of a table that make a chip.
-use Rattle.std.proofs.Common.{◌≡◌, ℕ, zero, suc, ◌+◌, ◌*◌, ◌%◌, ◌^◌, ◌<◌, ◌≤◌, Bool, true, false, cond, eqb, refl, ap, ◌∙◌, arith, shl_exact}
+use Rattle.std.proofs.Common.{◌/◌, ◌≡◌, ℕ, zero, suc, ◌%◌, ◌^◌, ◌<◌, ◌≤◌, Bool, true, false, cond, eqb, refl, ap, ◌∙◌, arith}
+use Rattle.std.proofs.Math.Pow.{pow_mono}
+use Rattle.std.proofs.lemmas.Nat.{ones_le_self, zero_from_ones}
+use Rattle.std.specs.Int.Count.{ones_step}
+use Rattle.std.specs.Int.RustNames.{count_ones}
 use Rattle.std.proofs.lemmas.Bool.{eqb-true, eqb-false, eq-eqb, both_ways}
 use Rattle.chip.specs.Rules.{Sized}
 use Rattle.places.specs.Lengths.{power_to, fits}
@@ -39,21 +43,36 @@ unfit n h = go (fits n) refl
     go true e = absurd (h (fits_sized n e))
     go false e = refl
 
--- a shift by at most 15 lines loses nothing
-pub shifted : (k : ℕ) → k ≤ 15 → (1 * 2 ^ k) % 65536 ≡ 2 ^ k
-shifted k l = shl_exact 1 k 16 (omega arith) (omega arith) ∙ omega arith
+-- A power of two has one digit set, and no other number has one alone.
+power_ones : (k : ℕ) → count_ones (2 ^ k) ≡ 1
+power_ones zero = omega (arith, ones_step 1, ones_le_self 0)
+power_ones (suc k) =
+    let e : 2 ^ suc k / 2 ≡ 2 ^ k = omega arith in
+    omega (arith, ones_step (2 ^ suc k), power_ones k, ap count_ones e)
 
-pub power_fits : (k n : ℕ) → 1 ≤ k → k ≤ 15 → n ≡ 2 ^ k → Sized n
-power_fits k n l m e = record { lines = k; least = l; most = m; power = e }
-
--- a length that is no power of two up to 2^15 makes no chip
-pub none_fits : (k n : ℕ) → 15 < k → ((j : ℕ) → 1 ≤ j → j < k → n ≡ 2 ^ j → ⊥) → Sized n → ⊥
-none_fits k n l h z = h z.lines z.least (let m = z.most in omega arith) z.power
-
--- one more line is tried
-pub next_line : (k n : ℕ) → (n ≡ 2 ^ k → ⊥) → ((j : ℕ) → 1 ≤ j → j < k → n ≡ 2 ^ j → ⊥) → (j : ℕ) → 1 ≤ j → j < k + 1 → n ≡ 2 ^ j → ⊥
-next_line k n q h j l m e = go (eqb j k) refl
+ones_power : (d n : ℕ) → n < 2 ^ d → count_ones n ≡ 1 → (k : ℕ) × (k < d) × (n ≡ 2 ^ k)
+ones_power zero n h e = absurd (omega (arith, ones_le_self n))
+ones_power (suc d) n h e = go (n % 2) refl (λ q. ones_power d (n / 2) (omega arith) q)
   where
-    go : (b : Bool) → eqb j k ≡ b → ⊥
-    go true f = q (e ∙ ap (λ (i : ℕ). 2 ^ i) (eqb-true j k f))
-    go false f = h j l (let x = eqb-false j k f in omega arith) e
+    go : (r : ℕ) → n % 2 ≡ r → (count_ones (n / 2) ≡ 1 → (k : ℕ) × (k < d) × (n / 2 ≡ 2 ^ k)) → (k : ℕ) × (k < suc d) × (n ≡ 2 ^ k)
+    go zero q more = let p = more (omega (arith, ones_step n)) in (suc p.0, omega (arith, p.1), omega (arith, p.2))
+    go (suc r) q more = (0, omega arith, omega (arith, ones_step n, zero_from_ones (n / 2) (omega (arith, ones_step n))))
+
+pub sized_ones : (n : ℕ) → Sized n → count_ones n ≡ 1
+sized_ones n z = ap count_ones z.power ∙ power_ones z.lines
+
+pub ones_sized : (n : ℕ) → 1 < n → n < 65536 → count_ones n ≡ 1 → Sized n
+ones_sized n l h e = go (ones_power 16 n h e)
+  where
+    go : (k : ℕ) × (k < 16) × (n ≡ 2 ^ k) → Sized n
+    go (zero, m, p) = absurd (omega arith)
+    go (suc k, m, p) = record { lines = suc k; least = omega arith; most = omega arith; power = p }
+
+pub sized_bounds : (n : ℕ) → Sized n → (1 < n) × (n < 65536)
+sized_bounds n z =
+    let l : 2 ^ 1 ≤ 2 ^ z.lines = pow_mono z.least in
+    let m : 2 ^ z.lines ≤ 2 ^ 15 = pow_mono z.most in
+    (omega (arith, l, z.power), omega (arith, m, z.power))
+
+-- what the size of a table rests on
+pub ruleset measuring = (sized_fits, unfit, sized_ones, ones_sized, sized_bounds)

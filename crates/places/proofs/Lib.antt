@@ -1,3 +1,4 @@
 pub mod Tables
 pub mod Lengths
 pub mod Delaying
+pub mod Striking

@@ -1,5 +1,6 @@
 -- One place of a slow chip, and what a strike makes of it.
-use Rattle.std.specs.Prelude.{ℕ, ◌+◌, min, Bool, true, false, cond, List, [], ◌∷◌, map, ◌==◌, bit_and, nat_lt}
+use Rattle.std.specs.Prelude.{ℕ, ◌+◌, min, Bool, cond, List, map, ◌==◌, bit_and, nat_lt}
+use Rattle.std.specs.List.{list_all}
 use Rattle.places.specs.declared.place.Place.{Place}
 
 -- A program count begins anew with each erase strike, an erase count with each program strike.
@@ -64,8 +65,7 @@ erased c = record {
 
 -- Is every place at zero under program margin?
 abbrev pub zeroed : List Cell → Bool
-zeroed [] = true
-zeroed (c ∷ cs) = cond (c.P == 0) (zeroed cs) false
+zeroed cs = list_all (λ c. c.P == 0) cs
 
 -- A place beyond the table is read as a new one.
 abbrev pub beyond : Cell

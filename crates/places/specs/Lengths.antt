@@ -1,5 +1,5 @@
 -- The lengths of a table that make a chip, and the check of a table.
-use Rattle.std.specs.Prelude.{◌≡◌, ℕ, zero, suc, ◌^◌, ◌<◌, Bool, true, false, cond, Some, None, Ok, Err, Option, Result, ◌==◌}
+use Rattle.std.specs.Prelude.{◌≡◌, ℕ, zero, suc, ◌^◌, ◌<◌, Bool, true, false, cond, Some, None, Ok, Err, Option, Result, ◌==◌, List, ◌++◌, codes, decimal}
 use Rattle.chip.specs.Rules.{Sized}
 use Rattle.places.specs.declared.check.TableFault.{TableFault}
 use Rattle.places.specs.declared.check.TableFault.TheVariants.{Length}
@@ -28,6 +28,10 @@ number (Length n) = 11
 
 abbrev pub told_length : TableFault → ℕ
 told_length (Length n) = n
+
+-- A refusal in words.
+abbrev pub sentence : TableFault → List ℕ
+sentence (Length n) = codes "no chip has " ++ decimal n ++ codes " places: a power of two from 2 to 32,768 is asked"
 
 abbrev pub verdict : {X : Type 0} → Result X TableFault → Verdict
 verdict (Ok x) = accepted

@@ -1,12 +1,14 @@
 // The check before a chip is made of a table.
-ghost use Rattle.std.specs.Prelude.{◌≡◌, length};
-ghost use Rattle.places.specs.Lengths.{number, verdict, Checked};
+ghost use Rattle.std.specs.Prelude.{◌≡◌, length, Some};
+ghost use Rattle.places.specs.Lengths.{number, verdict, Checked, sentence};
 
 use crate::place::Place;
 use crate::sizes::chip_size;
+use std::error::Error;
+use std::fmt;
 
 // Why a table makes no chip.
-#[derive(Clone, Copy)]
+#[derive(Clone, Copy, Debug, PartialEq)]
 pub enum TableFault {
     // no chip has so many places: a power of two from 2 to 32,768 is asked
     Length(usize),
@@ -24,11 +26,24 @@ impl TableFault {
     }
 }
 
+impl fmt::Display for TableFault {
+    ghost output = { λ fault. Some (sentence fault) };
+
+    fn fmt<W: fmt::Write>(&self, f: &mut fmt::Formatter<W>) -> fmt::Result {
+        match self {
+            TableFault::Length(places) => write!(
+                f,
+                "no chip has {places} places: a power of two from 2 to 32,768 is asked"
+            ),
+        }
+    }
+}
+
+impl Error for TableFault {}
+
 pub fn check_table(table: &[Place]) -> Result<(), TableFault>
     ensures { Checked (length table.now) (verdict result) }
 {
-    match chip_size(table.len()) {
-        Some(_) => Ok(()),
-        None => Err(TableFault::Length(table.len())),
-    }
+    chip_size(table.len()).ok_or(TableFault::Length(table.len()))?;
+    Ok(())
 }

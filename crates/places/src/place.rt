@@ -5,7 +5,7 @@ ghost use Rattle.chip.specs.Rules.{Within};
 // Eight cells under erase margin, in ordinary reading and under program margin. They give way
 // to a kind of strike once its count reaches its delay, and wholly once it is past it.
 // A strike of one kind adds to its own count and makes the other 0.
-#[derive(Clone, Copy)]
+#[derive(Clone, Copy, Debug, PartialEq)]
 pub struct Place {
     pub erase: u8,
     pub read: u8,

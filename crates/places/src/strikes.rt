@@ -9,14 +9,8 @@ const FULL: u8 = 0xFF;
 
 impl Place {
     // A new place, which gives way to each kind of strike after so many of them.
+    #[tactic(auto, using(crate::proofs::Delaying::gives_way))]
     pub fn new(program_delay: u16, erase_delay: u16) -> Place
-        ensures made { cell result ≡ made_cell program_delay erase_delay }
-        ensures delays { GivesWay (cell result) }
-    {
-        Place::made(program_delay, erase_delay)
-    }
-
-    fn made(program_delay: u16, erase_delay: u16) -> Place
         ensures made { cell result ≡ made_cell program_delay erase_delay }
         ensures delays { GivesWay (cell result) }
     {
@@ -37,6 +31,7 @@ impl Place {
         *self = Place::new(self.program_delay, self.erase_delay);
     }
 
+    #[tactic(auto, using(crate::proofs::Striking::striking))]
     pub(crate) fn program_strike(&mut self, byte: u8)
         ensures { cell self.new ≡ programmed byte (cell self.old) }
     {
@@ -51,6 +46,7 @@ impl Place {
         }
     }
 
+    #[tactic(auto, using(crate::proofs::Striking::striking))]
     pub(crate) fn erase_strike(&mut self)
         ensures { cell self.new ≡ erased (cell self.old) }
     {

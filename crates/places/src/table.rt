@@ -1,7 +1,9 @@
 // A table of places, however it is held.
-ghost use Rattle.std.specs.Prelude.{◌≡◌, ℕ, List, map, length, slice_index_or, slice_set};
+ghost use Rattle.std.specs.Prelude.{◌≡◌, ℕ, List, map, length, slice_index_or, slice_set, ◌==◌};
+ghost use Rattle.std.specs.List.{list_all};
+ghost use Rattle.std.specs.Borrow.{MutBor};
 ghost use Rattle.places.specs.declared.place.Place.{Place};
-ghost use Rattle.places.specs.Cells.{beyond, cell, cells, refreshed, programmed, erased, zeroed};
+ghost use Rattle.places.specs.Cells.{Cell, beyond, cell, cells, refreshed, programmed, erased, zeroed};
 
 use crate::place::Place;
 
@@ -36,49 +38,21 @@ pub trait PlaceTable {
         ensures { result ≡ zeroed (cells (places self.now)) };
 }
 
-fn place_at(table: &[Place], at: usize) -> Place
-    ensures { cell result ≡ slice_index_or (cells table.now) at beyond }
-{
-    if at < table.len() {
-        table[at]
-    } else {
-        Place::new(0, 0)
-    }
-}
-
-fn refresh_all(table: &mut [Place])
-    ensures { cells table.new ≡ map refreshed (cells table.old) }
+// Changes each place by `change`: a loop, since of what the closure of a `for_each` changed a proof knows nothing.
+fn change_all<F: Fn(&mut Place)>(table: &mut [Place], change: F)
+    requires { F.IsAlwaysCallable change }
+    ensures { (f : Cell → Cell) → ((p q : MutBor Place) → F.post change p tt q → cell q.now ≡ f (cell p.now)) → cells table.new ≡ map f (cells table.old) }
 {
     'places: for place in table.iter_mut() {
-        place.refresh();
+        change(place);
     }
 }
 
-fn program_one(table: &mut [Place], at: usize, byte: u8)
-    ensures { cells table.new ≡ slice_set (cells table.old) at (programmed byte (slice_index_or (cells table.old) at beyond)) }
-{
-    if at < table.len() {
-        table[at].program_strike(byte);
-    }
-}
-
-fn erase_all(table: &mut [Place])
-    ensures { cells table.new ≡ map erased (cells table.old) }
-{
-    'places: for place in table.iter_mut() {
-        place.erase_strike();
-    }
-}
-
+// Told of the places and not of their cells: a chain over the places says no more to a proof.
 fn all_zeroed(table: &[Place]) -> bool
-    ensures { result ≡ zeroed (cells table.now) }
+    ensures { result ≡ list_all (λ (p : Place). p.program == 0) table.now }
 {
-    'places: for place in table {
-        if place.program != 0 {
-            return false;
-        }
-    }
-    true
+    table.iter().all(|place| place.program == 0)
 }
 
 // A slice that the caller lends.
@@ -92,21 +66,26 @@ impl<'a> PlaceTable for &'a mut [Place] {
     }
 
     fn place(&self, at: usize) -> Place {
-        place_at(self, at)
+        self.get(at).copied().unwrap_or(Place::new(0, 0))
     }
 
     fn refresh(&mut self) {
-        refresh_all(self);
+        change_all(self, |place| place.refresh());
     }
 
+    // By index: what `get_mut` lends a proof does not know afterwards.
+    #[tactic(auto, using(crate::proofs::Tables::striking))]
     fn program(&mut self, at: usize, byte: u8) {
-        program_one(self, at, byte);
+        if at < self.len() {
+            self[at].program_strike(byte);
+        }
     }
 
     fn erase(&mut self) {
-        erase_all(self);
+        change_all(self, |place| place.erase_strike());
     }
 
+    #[tactic(auto, using(crate::proofs::Tables::zeroed_cells))]
     fn zeroed(&self) -> bool {
         all_zeroed(self)
     }

@@ -24,7 +24,7 @@ pub record State : Type 0 where
 
 -- What a chip over a table holds, the places of the table given.
 abbrev pub state : {T : Type 0} → (T → List Place) → TableChip T → State
-state places c = record { cells = cells (places c.table); maker = c.maker; device = c.device; register = kept c.register }
+state places c = record { cells = cells (places c.table); maker = c.signature.maker; device = c.signature.device; register = kept c.register }
 
 -- A chip with the table's places, or else an empty socket.
 abbrev pub meant : State → Meaning

@@ -2,6 +2,9 @@
 use Rattle.std.specs.Prelude.{◌≡◌, ℕ, zero, suc, ◌%◌, ◌<◌, ◌≤◌, Bool, true, false, cond, List, [], ◌∷◌, length, get_or, ◌==◌, ◌≢◌, bit_and, nat_lt, slice_index_or, slice_set, refl}
 use Rattle.std.proofs.Common.{sym, ◌∙◌, ap, subst, arith, mod-lt, le_of_suc-le-suc, lit<, length-set, get_or-set_same, get_or-set_other}
 use Rattle.std.proofs.lemmas.List.{get_or-map, length-map}
+use Rattle.std.proofs.lemmas.List.Elements.{All-get_or}
+use Rattle.std.proofs.lemmas.List.Sums.{AllPass-from_list_all}
+use Rattle.std.specs.Prelude.{◌&&◌}
 use Rattle.std.proofs.lemmas.Bool.{eqb-true, eqb-false, le-ltb, both_ways}
 use Rattle.chip.specs.Rules.{Within, bit, Cycle, write, read, sign, wait, supply, Meaning, Step, Sized, Nested, Ordered, Zeroed, Strike, none, program, erase, May, Answers, Shown, Signed, strike, after}
 use Rattle.chip.specs.declared.state.Code.{Code}
@@ -78,34 +81,22 @@ moved erase cs a h b =
 
 -- WHOLLY AT ZERO
 
-head_tells : (c : Cell) (cs : List Cell) (b r : Bool) → (c.P == 0) ≡ b → zeroed (c ∷ cs) ≡ r → cond b (zeroed cs) false ≡ r
-head_tells c cs b r e h = sym (ap (λ (x : Bool). cond x (zeroed cs) false) e) ∙ h
-
 abbrev SomeLeft : List Cell → Type 0
 SomeLeft cs = (a : ℕ) × (a < length cs) × (0 < (get_or cs a beyond).P)
 
 abbrev AllClear : List Cell → Type 0
 AllClear cs = (a : ℕ) → a < length cs → (get_or cs a beyond).P ≡ 0
 
-left_more : (c : Cell) (cs : List Cell) → SomeLeft cs → SomeLeft (c ∷ cs)
-left_more c cs r = let l = r.1 in (suc r.0, omega arith, r.2)
-
-left_by : (c : Cell) (cs : List Cell) (b : Bool) → (c.P == 0) ≡ b → zeroed (c ∷ cs) ≡ false → (zeroed cs ≡ false → SomeLeft cs) → SomeLeft (c ∷ cs)
-left_by c cs true e h r = left_more c cs (r (head_tells c cs true false e h))
+left_by : (c : Cell) (cs : List Cell) (b : Bool) → (c.P == 0) ≡ b → (b && zeroed cs) ≡ false → (zeroed cs ≡ false → SomeLeft cs) → SomeLeft (c ∷ cs)
+left_by c cs true e h r = let l = r h in let i = l.1 in (suc l.0, omega arith, l.2)
 left_by c cs false e h r = let n = eqb-false c.P 0 e in (0, omega arith, omega arith)
 
 some_left : (cs : List Cell) → zeroed cs ≡ false → SomeLeft cs
 some_left [] h = absurd (both_ways true h refl)
 some_left (c ∷ cs) h = left_by c cs (c.P == 0) refl h (λ k. some_left cs k)
 
-clear_by : (c : Cell) (cs : List Cell) (b : Bool) → (c.P == 0) ≡ b → zeroed (c ∷ cs) ≡ true → (zeroed cs ≡ true → AllClear cs) → AllClear (c ∷ cs)
-clear_by c cs true e h r zero l = eqb-true c.P 0 e
-clear_by c cs true e h r (suc a) l = r (head_tells c cs true true e h) a (le_of_suc-le-suc l)
-clear_by c cs false e h r a l = absurd (both_ways false refl (head_tells c cs false true e h))
-
 all_clear : (cs : List Cell) → zeroed cs ≡ true → AllClear cs
-all_clear [] h = λ a l. absurd (omega arith)
-all_clear (c ∷ cs) h = clear_by c cs (c.P == 0) refl h (λ k. all_clear cs k)
+all_clear cs h a l = eqb-true _ 0 (All-get_or (λ (c : Cell). (c.P == 0) ≡ true) cs a beyond l (AllPass-from_list_all (λ (c : Cell). c.P == 0) cs h))
 
 -- A CHIP AT WORK
 

@@ -6,7 +6,7 @@ ghost use Rattle.sim.specs.Trials.{Works, state, meant, size_of, next, pulsed, r
 ghost use Rattle.sim.specs.TrialsLemmas.{places_nested, state_lawful, state_ordered, state_sized};
 
 use chip::timing::SETTLING;
-use chip::{Chip, Code, Mode, Voltage};
+use chip::{Chip, Code, Mode, Signature, Voltage};
 use places::{Place, PlaceTable, chip_size};
 use socket::{CommandRegister, FLOATING, NO_CODE, SOCKET_SIZE};
 
@@ -14,8 +14,7 @@ use socket::{CommandRegister, FLOATING, NO_CODE, SOCKET_SIZE};
 #[derive(Drop)]
 pub struct TableChip<T> {
     pub table: T,
-    pub maker: u8,
-    pub device: u8,
+    pub signature: Signature,
     pub register: CommandRegister,
 }
 
@@ -24,42 +23,27 @@ pub type SlowChip<'a> = TableChip<&'a mut [Place]>;
 
 impl<T: PlaceTable> TableChip<T> {
     // A chip of the table's places, all bytes FFh, with low voltage and no marks. The table keeps its delays.
-    pub fn new(table: T, maker: u8, device: u8) -> TableChip<T>
-        ensures made { Made (cells (T.PlaceTable.places table)) maker device (state T.PlaceTable.places result) }
+    #[tactic(auto, using(crate::proofs::Makings::making))]
+    pub fn new(table: T, signature: Signature) -> TableChip<T>
+        ensures made { Made (cells (T.PlaceTable.places table)) signature.maker signature.device (state T.PlaceTable.places result) }
         ensures lender { T.PlaceTable.lender result.table ≡ T.PlaceTable.lender table }
     {
-        TableChip::made(table, maker, device)
-    }
-
-    fn made(table: T, maker: u8, device: u8) -> TableChip<T>
-        ensures made { Made (cells (T.PlaceTable.places table)) maker device (state T.PlaceTable.places result) }
-        ensures lender { T.PlaceTable.lender result.table ≡ T.PlaceTable.lender table }
-    {
-        let mut table = table;
-        if let Some(_) = chip_size(table.count()) {
-            table.refresh();
-        }
-        TableChip {
+        let mut chip = TableChip {
             table,
-            maker,
-            device,
+            signature,
             register: CommandRegister::new(),
+        };
+        if chip.working_size().is_some() {
+            chip.table.refresh();
         }
+        chip
     }
 
+    #[tactic(auto, using(crate::proofs::Works::works))]
     fn working_size(&self) -> Option<u16>
         ensures { Works (cells (T.PlaceTable.places self.now.table)) result }
     {
         chip_size(self.table.count())
-    }
-
-    fn places(&self) -> u16
-        ensures { result ≡ size_of (cells (T.PlaceTable.places self.now.table)) }
-    {
-        match self.working_size() {
-            Some(size) => size,
-            None => SOCKET_SIZE,
-        }
     }
 
     fn reading(&self, address: u16) -> u8
@@ -68,14 +52,11 @@ impl<T: PlaceTable> TableChip<T> {
         let Some(size) = self.working_size() else {
             return FLOATING;
         };
+        let place_at = |address: u16| self.table.place(usize::from(address % size));
         match self.register.mode {
-            Mode::Read => self.table.place(usize::from(address % size)).read,
-            Mode::ProgramVerify { place, time } if time >= SETTLING => {
-                self.table.place(usize::from(place % size)).program
-            }
-            Mode::EraseVerify { place, time } if time >= SETTLING => {
-                self.table.place(usize::from(place % size)).erase
-            }
+            Mode::Read => place_at(address).read,
+            Mode::ProgramVerify { place, time } if time >= SETTLING => place_at(place).program,
+            Mode::EraseVerify { place, time } if time >= SETTLING => place_at(place).erase,
             _ => FLOATING,
         }
     }
@@ -83,9 +64,8 @@ impl<T: PlaceTable> TableChip<T> {
     fn signature(&self, code: Code) -> u8
         ensures { result ≡ signature (state T.PlaceTable.places self.now) code }
     {
-        match (self.working_size(), self.register.mode, code) {
-            (Some(_), Mode::Sign, Code::Maker) => self.maker,
-            (Some(_), Mode::Sign, Code::Device) => self.device,
+        match self.register.mode {
+            Mode::Sign if self.working_size().is_some() => self.signature.byte(code),
             _ => NO_CODE,
         }
     }
@@ -100,15 +80,11 @@ impl<T: PlaceTable> TableChip<T> {
             return;
         };
         match self.register.mode {
-            Mode::Programming {
-                place,
-                byte,
-                time: _,
-            } => {
+            Mode::Programming { place, byte, .. } => {
                 self.table.program(usize::from(place % size), byte);
                 self.register = self.register.pulse_ended(size, false);
             }
-            Mode::Erasing { time: _ } => {
+            Mode::Erasing { .. } => {
                 let zeroed = self.table.zeroed();
                 self.table.erase();
                 self.register = self.register.pulse_ended(size, zeroed);
@@ -132,17 +108,14 @@ impl<T: PlaceTable> Chip for TableChip<T> {
     ghost sized = { λ s. state_sized (state T.PlaceTable.places s) };
 
     fn size(&self) -> u16 {
-        self.places()
+        self.working_size().unwrap_or(SOCKET_SIZE)
     }
 
     fn write_cycle(&mut self, address: u16, byte: u8) {
-        match self.register.voltage {
-            Voltage::Low => {}
-            Voltage::High => {
-                let size = self.places();
-                self.end_pulse();
-                self.register = self.register.told(size, address, byte);
-            }
+        if self.register.voltage == Voltage::High {
+            let size = self.size();
+            self.end_pulse();
+            self.register = self.register.told(size, address, byte);
         }
     }
 

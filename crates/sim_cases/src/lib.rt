@@ -9,16 +9,18 @@ ghost use Rattle.places.specs.Cells.{cells, refreshed};
 #[cfg(test)]
 mod tests {
     use carrier::{Carrier, Mirror};
-    use chip::{Chip, Code, Mode, Run, Tallies, Turn, Voltage, capacity};
-    use places::{Place, check_table};
+    use chip::{Chip, Code, Mode, Run, Signature, Tallies, Turn, Voltage, capacity};
+    use places::{Place, TableFault, check_table};
     use sim::{SlowChip, TableChip};
     use std::process::Abort;
     use std::test::Fail;
 
-    const AMD: u8 = 0x01;
+    const AM28F256: Signature = Signature {
+        maker: 0x01,
+        device: 0xA1,
+    };
 
-    const AM28F256: u8 = 0xA1;
-
+    // What a comparison of marks names, in one line each.
     fn tallies(program: u64, erase: u64, short: u64, hard: u64) -> Tallies {
         Tallies {
             program,
@@ -34,6 +36,10 @@ mod tests {
             length,
             longest,
         }
+    }
+
+    fn run(length: u16, longest: u16) -> Run {
+        Run { length, longest }
     }
 
     // One attempt on a byte, with a program pulse and a settling time of these lengths: what is read.
@@ -75,7 +81,7 @@ mod tests {
     #[test]
     fn a_place_with_program_delay_24_gives_way_at_the_25th_pulse(rt: HostRuntime) {
         let mut table = [Place::new(24, 0); 2];
-        let mut chip: SlowChip = TableChip::new(&mut table, AMD, AM28F256);
+        let mut chip: SlowChip = TableChip::new(&mut table, AM28F256);
         chip.set_voltage(Voltage::High);
         for _ in 0..23 {
             assert_eq!(rt; attempt(&mut chip, 1, 0x00, 10, 6), 0xFF);
@@ -95,7 +101,7 @@ mod tests {
     #[test]
     fn a_place_with_program_delay_25_does_not(rt: HostRuntime) {
         let mut table = [Place::new(25, 0); 2];
-        let mut chip: SlowChip = TableChip::new(&mut table, AMD, AM28F256);
+        let mut chip: SlowChip = TableChip::new(&mut table, AM28F256);
         chip.set_voltage(Voltage::High);
         for _ in 0..25 {
             assert_eq!(rt; attempt(&mut chip, 0, 0x00, 10, 6), 0xFF);
@@ -109,7 +115,7 @@ mod tests {
     #[test]
     fn an_erase_delay_is_counted_in_erase_pulses(rt: HostRuntime) {
         let mut table = [Place::new(0, 2); 4];
-        let mut chip: SlowChip = TableChip::new(&mut table, AMD, AM28F256);
+        let mut chip: SlowChip = TableChip::new(&mut table, AM28F256);
         chip.set_voltage(Voltage::High);
         for place in 0..4 {
             assert_eq!(rt; attempt(&mut chip, place, 0x00, 10, 6), 0x00);
@@ -125,22 +131,10 @@ mod tests {
         assert_eq!(rt; erase_verify(&mut chip, 3), 0xFF);
         let marks = chip.register.marks;
         assert_eq!(rt; marks.tallies, tallies(4, 3, 0, 0));
-        assert_eq!(rt;
-            marks.run,
-            Run {
-                length: 3,
-                longest: 3,
-            }
-        );
+        assert_eq!(rt; marks.run, run(3, 3));
         // a program strike begins the count anew
         assert_eq!(rt; attempt(&mut chip, 3, 0x7F, 10, 6), 0x7F);
-        assert_eq!(rt;
-            chip.register.marks.run,
-            Run {
-                length: 0,
-                longest: 3,
-            }
-        );
+        assert_eq!(rt; chip.register.marks.run, run(0, 3));
         assert_eq!(rt; table[3].erase_count, 0);
         assert_eq!(rt; table[3].program_count, 1);
         assert_eq!(rt; table[2].erase_count, 3);
@@ -150,7 +144,7 @@ mod tests {
     #[test]
     fn a_short_pulse_strikes_and_is_marked_short(rt: HostRuntime) {
         let mut table = [Place::new(0, 0); 2];
-        let mut chip: SlowChip = TableChip::new(&mut table, AMD, AM28F256);
+        let mut chip: SlowChip = TableChip::new(&mut table, AM28F256);
         chip.set_voltage(Voltage::High);
         assert_eq!(rt; attempt(&mut chip, 0, 0x0F, 9, 6), 0x0F);
         assert_eq!(rt; chip.register.marks.tallies, tallies(0, 0, 1, 0));
@@ -158,19 +152,13 @@ mod tests {
         erase(&mut chip, 9_999);
         assert_eq!(rt; erase_verify(&mut chip, 0), 0xFF);
         assert_eq!(rt; chip.register.marks.tallies, tallies(0, 0, 2, 0));
-        assert_eq!(rt;
-            chip.register.marks.run,
-            Run {
-                length: 0,
-                longest: 0,
-            }
-        );
+        assert_eq!(rt; chip.register.marks.run, run(0, 0));
     }
 
     #[test]
     fn an_erase_is_judged_by_the_chip_before_its_first_pulse(rt: HostRuntime) {
         let mut table = [Place::new(0, 0); 2];
-        let mut chip: SlowChip = TableChip::new(&mut table, AMD, AM28F256);
+        let mut chip: SlowChip = TableChip::new(&mut table, AM28F256);
         chip.set_voltage(Voltage::High);
         assert_eq!(rt; attempt(&mut chip, 0, 0x00, 10, 6), 0x00);
         assert_eq!(rt; attempt(&mut chip, 1, 0x00, 10, 6), 0x00);
@@ -182,7 +170,7 @@ mod tests {
     #[test]
     fn an_erase_opened_on_a_chip_not_at_zero_is_hard(rt: HostRuntime) {
         let mut table = [Place::new(0, 0); 2];
-        let mut chip: SlowChip = TableChip::new(&mut table, AMD, AM28F256);
+        let mut chip: SlowChip = TableChip::new(&mut table, AM28F256);
         chip.set_voltage(Voltage::High);
         assert_eq!(rt; attempt(&mut chip, 0, 0x00, 10, 6), 0x00);
         erase(&mut chip, 10_000);
@@ -193,19 +181,13 @@ mod tests {
         erase(&mut chip, 10_000);
         chip.set_voltage(Voltage::Low);
         assert_eq!(rt; chip.register.marks.tallies, tallies(1, 2, 0, 1));
-        assert_eq!(rt;
-            chip.register.marks.run,
-            Run {
-                length: 2,
-                longest: 2,
-            }
-        );
+        assert_eq!(rt; chip.register.marks.run, run(2, 2));
     }
 
     #[test]
     fn verifying_needs_six_microseconds(rt: HostRuntime) {
         let mut table = [Place::new(0, 0); 2];
-        let mut chip: SlowChip = TableChip::new(&mut table, AMD, AM28F256);
+        let mut chip: SlowChip = TableChip::new(&mut table, AM28F256);
         chip.set_voltage(Voltage::High);
         assert_eq!(rt; attempt(&mut chip, 1, 0xA5, 10, 5), 0xFF);
         chip.wait(1);
@@ -223,7 +205,7 @@ mod tests {
         ensures lawful { Sized (length (cells table.old)) → cells table.new ≡ map refreshed (cells table.old) }
         ensures unlawful { (Sized (length (cells table.old)) → ⊥) → cells table.new ≡ cells table.old }
     {
-        let mut chip: SlowChip = TableChip::new(table, AMD, AM28F256);
+        let mut chip: SlowChip = TableChip::new(table, AM28F256);
         chip.write_cycle(0, 0x40);
         chip.write_cycle(0, 0x00);
         chip.wait(10);
@@ -233,7 +215,7 @@ mod tests {
     #[test]
     fn a_write_at_low_voltage_does_nothing(rt: HostRuntime) {
         let mut table = [Place::new(0, 0); 2];
-        let mut chip: SlowChip = TableChip::new(&mut table, AMD, AM28F256);
+        let mut chip: SlowChip = TableChip::new(&mut table, AM28F256);
         chip.write_cycle(0, 0x40);
         assert_eq!(rt; chip.register.mode, Mode::Read);
         chip.write_cycle(1, 0x00);
@@ -243,7 +225,7 @@ mod tests {
         assert_eq!(rt; chip.read_cycle(1), 0xFF);
         assert_eq!(rt; chip.register.marks.tallies, tallies(0, 0, 0, 0));
         assert_eq!(rt; table[1].program_count, 0);
-        let mut chip: SlowChip = TableChip::new(&mut table, AMD, AM28F256);
+        let mut chip: SlowChip = TableChip::new(&mut table, AM28F256);
         chip.set_voltage(Voltage::High);
         assert_eq!(rt; attempt(&mut chip, 0, 0x12, 10, 6), 0x12);
         write_at_low_voltage(&mut table);
@@ -257,7 +239,7 @@ mod tests {
     #[test]
     fn an_address_is_taken_modulo_the_size(rt: HostRuntime) {
         let mut table = [Place::new(0, 0); 16];
-        let mut chip: SlowChip = TableChip::new(&mut table, AMD, AM28F256);
+        let mut chip: SlowChip = TableChip::new(&mut table, AM28F256);
         chip.set_voltage(Voltage::High);
         assert_eq!(rt; attempt(&mut chip, 16, 0x12, 10, 6), 0x12);
         assert_eq!(rt; chip.register.marks.turn, turn(0, 1, 1));
@@ -271,7 +253,7 @@ mod tests {
     #[test]
     fn the_signature_is_read_in_sign_only(rt: HostRuntime) {
         let mut table = [Place::new(0, 0); 2];
-        let mut chip: SlowChip = TableChip::new(&mut table, AMD, AM28F256);
+        let mut chip: SlowChip = TableChip::new(&mut table, AM28F256);
         chip.set_voltage(Voltage::High);
         // Read, Idle, Program Setup, Programming, Program Verify, Erase Setup, Erasing, Erase Verify
         for byte in [0x00, 0xFF, 0x40, 0xFF, 0xC0, 0x20, 0x20, 0xA0] {
@@ -280,14 +262,14 @@ mod tests {
             assert_eq!(rt; chip.signature_cycle(Code::Device), 0xFF);
         }
         chip.write_cycle(0, 0x90);
-        assert_eq!(rt; chip.signature_cycle(Code::Maker), AMD);
-        assert_eq!(rt; chip.signature_cycle(Code::Device), AM28F256);
+        assert_eq!(rt; chip.signature_cycle(Code::Maker), AM28F256.maker);
+        assert_eq!(rt; chip.signature_cycle(Code::Device), AM28F256.device);
     }
 
     #[test]
     fn a_mirror_of_16_places_takes_3_to_12(rt: HostRuntime) {
         let mut table = [Place::new(0, 0); 16];
-        let chip: SlowChip = TableChip::new(&mut table, AMD, AM28F256);
+        let chip: SlowChip = TableChip::new(&mut table, AM28F256);
         let mut carrier = Carrier {
             chip,
             crossing: Mirror,
@@ -300,26 +282,20 @@ mod tests {
         assert_eq!(rt; erase_verify(&mut carrier, 3), 0x5A);
         assert_eq!(rt; capacity(&carrier), 16);
         carrier.write_cycle(0, 0x90);
-        assert_eq!(rt; carrier.signature_cycle(Code::Device), AM28F256);
-        let Carrier {
-            mut chip,
-            crossing: _,
-        } = carrier;
+        assert_eq!(rt; carrier.signature_cycle(Code::Device), AM28F256.device);
+        let Carrier { mut chip, .. } = carrier;
         assert_eq!(rt; chip.register.marks.turn.place, 12);
         assert_eq!(rt; read(&mut chip, 12), 0x5A);
     }
 
-    // The number of the refusal that a table of so many records meets, 0 if it is none.
-    fn refusal(table: &[Place]) -> u8 {
-        match check_table(table) {
-            Ok(()) => 0,
-            Err(fault) => fault.number(),
-        }
+    // The number of the refusal that a table of so many records meets.
+    fn check(table: &[Place]) -> Result<(), u8> {
+        check_table(table).map_err(TableFault::number)
     }
 
     // A chip made of this table is an empty socket, and touches no record.
     fn is_empty_socket(rt: &impl Abort, table: &mut [Place]) {
-        let mut chip: SlowChip = TableChip::new(table, AMD, AM28F256);
+        let mut chip: SlowChip = TableChip::new(table, AM28F256);
         assert_eq!(rt; chip.size(), 32_768);
         chip.set_voltage(Voltage::High);
         chip.write_cycle(0, 0x90);
@@ -333,22 +309,22 @@ mod tests {
 
     #[test]
     fn a_table_of_no_lawful_length_is_an_empty_socket(rt: HostRuntime) {
-        assert_eq!(rt; refusal(&[]), 11);
+        assert_eq!(rt; check(&[]), Err(11));
         is_empty_socket(&rt, &mut []);
         let mut one = [Place::new(0, 0); 1];
-        assert_eq!(rt; refusal(&one), 11);
+        assert_eq!(rt; check(&one), Err(11));
         is_empty_socket(&rt, &mut one);
         assert_eq!(rt; one[0].program, 0xFF);
         assert_eq!(rt; one[0].program_count, 0);
         assert_eq!(rt; one[0].erase_count, 0);
         // records with a past: a byte programmed, a count
         let mut two = [Place::new(0, 7); 2];
-        let mut chip: SlowChip = TableChip::new(&mut two, AMD, AM28F256);
+        let mut chip: SlowChip = TableChip::new(&mut two, AM28F256);
         chip.set_voltage(Voltage::High);
         assert_eq!(rt; attempt(&mut chip, 1, 0x3C, 10, 6), 0x3C);
-        assert_eq!(rt; refusal(&two), 0);
+        assert_eq!(rt; check(&two), Ok(()));
         let mut three = [two[1], two[1], two[0]];
-        assert_eq!(rt; refusal(&three), 11);
+        assert_eq!(rt; check(&three), Err(11));
         is_empty_socket(&rt, &mut three);
         // the strikes were at place 0 and, of the erase, at every place
         for place in three.iter() {
@@ -365,7 +341,7 @@ mod tests {
     #[test]
     fn making_refreshes_a_lawful_table_and_keeps_its_delays(rt: HostRuntime) {
         let mut table = [Place::new(3, 4); 4];
-        let mut chip: SlowChip = TableChip::new(&mut table, AMD, AM28F256);
+        let mut chip: SlowChip = TableChip::new(&mut table, AM28F256);
         chip.set_voltage(Voltage::High);
         for _ in 0..4 {
             chip.write_cycle(0, 0x40);
@@ -374,7 +350,7 @@ mod tests {
         chip.set_voltage(Voltage::Low);
         assert_eq!(rt; table[2].program, 0x00);
         assert_eq!(rt; table[2].program_count, 4);
-        let chip: SlowChip = TableChip::new(&mut table, AMD, AM28F256);
+        let chip: SlowChip = TableChip::new(&mut table, AM28F256);
         assert_eq!(rt; chip.register.mode, Mode::Read);
         assert_eq!(rt; chip.register.voltage, Voltage::Low);
         assert_eq!(rt; chip.register.marks.tallies, tallies(0, 0, 0, 0));
@@ -390,8 +366,8 @@ mod tests {
     #[test]
     fn the_largest_chip_has_32768_places(rt: HostRuntime) -> Result<(), Fail> {
         let mut table = vec![in rt.alloc(); Place::new(0, 0); 32_768]?;
-        assert_eq!(rt; refusal(&table), 0);
-        let mut chip: SlowChip = TableChip::new(&mut table, AMD, AM28F256);
+        assert_eq!(rt; check(&table), Ok(()));
+        let mut chip: SlowChip = TableChip::new(&mut table, AM28F256);
         assert_eq!(rt; capacity(&chip), 32_768);
         chip.set_voltage(Voltage::High);
         assert_eq!(rt; attempt(&mut chip, 32_767, 0x00, 10, 6), 0x00);
@@ -399,7 +375,7 @@ mod tests {
         erase(&mut chip, 10_000);
         assert_eq!(rt; erase_verify(&mut chip, 32_767), 0xFF);
         let mut more = vec![in rt.alloc(); Place::new(0, 0); 65_536]?;
-        assert_eq!(rt; refusal(&more), 11);
+        assert_eq!(rt; check(&more), Err(11));
         is_empty_socket(&rt, &mut more);
         Ok(())
     }
