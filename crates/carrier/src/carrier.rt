@@ -18,6 +18,7 @@ pub type MirrorCarrier<C> = Carrier<C, Mirror>;
 
 impl<C: Chip, X: Crossing> Carrier<C, X> {
     // the chip's address for an address of the carrier
+    #[tactic(auto, using(chip::proofs::Sizes::sized_pos))]
     fn below(&self, address: u16) -> u16
         ensures { result ≡ across (X.Crossing.there self.now.crossing) (C.Chip.meaning self.now.chip).size address }
     {

@@ -18,10 +18,10 @@ cell p = record {
   E = p.erase;
   R = p.read;
   P = p.program;
-  program_delay = p.program_delay;
-  erase_delay = p.erase_delay;
-  program_count = p.program_count;
-  erase_count = p.erase_count;
+  program_delay = p.program_strikes.delay;
+  erase_delay = p.erase_strikes.delay;
+  program_count = p.program_strikes.count;
+  erase_count = p.erase_strikes.count;
 }
 
 abbrev pub cells : List Place → List Cell

@@ -8,6 +8,6 @@ mod strikes;
 mod table;
 
 pub use check::{TableFault, check_table};
-pub use place::Place;
+pub use place::{Place, Strikes};
 pub use sizes::chip_size;
 pub use table::PlaceTable;

@@ -95,7 +95,7 @@ mod tests {
         let marks = chip.register.marks;
         assert_eq!(rt; marks.tallies, tallies(25, 0, 0, 0));
         assert_eq!(rt; marks.turn, turn(1, 25, 25));
-        assert_eq!(rt; table[1].program_count, 25);
+        assert_eq!(rt; table[1].program_strikes.count, 25);
     }
 
     #[test]
@@ -135,10 +135,10 @@ mod tests {
         // a program strike begins the count anew
         assert_eq!(rt; attempt(&mut chip, 3, 0x7F, 10, 6), 0x7F);
         assert_eq!(rt; chip.register.marks.run, run(0, 3));
-        assert_eq!(rt; table[3].erase_count, 0);
-        assert_eq!(rt; table[3].program_count, 1);
-        assert_eq!(rt; table[2].erase_count, 3);
-        assert_eq!(rt; table[2].program_count, 0);
+        assert_eq!(rt; table[3].erase_strikes.count, 0);
+        assert_eq!(rt; table[3].program_strikes.count, 1);
+        assert_eq!(rt; table[2].erase_strikes.count, 3);
+        assert_eq!(rt; table[2].program_strikes.count, 0);
     }
 
     #[test]
@@ -224,16 +224,16 @@ mod tests {
         assert_eq!(rt; chip.register.mode, Mode::Read);
         assert_eq!(rt; chip.read_cycle(1), 0xFF);
         assert_eq!(rt; chip.register.marks.tallies, tallies(0, 0, 0, 0));
-        assert_eq!(rt; table[1].program_count, 0);
+        assert_eq!(rt; table[1].program_strikes.count, 0);
         let mut chip: SlowChip = TableChip::new(&mut table, AM28F256);
         chip.set_voltage(Voltage::High);
         assert_eq!(rt; attempt(&mut chip, 0, 0x12, 10, 6), 0x12);
         write_at_low_voltage(&mut table);
         assert_eq!(rt; table[0].read, 0xFF);
-        assert_eq!(rt; table[0].program_count, 0);
+        assert_eq!(rt; table[0].program_strikes.count, 0);
         let mut three = [table[0]; 3];
         write_at_low_voltage(&mut three);
-        assert_eq!(rt; three[0].program_count, 0);
+        assert_eq!(rt; three[0].program_strikes.count, 0);
     }
 
     #[test]
@@ -315,8 +315,8 @@ mod tests {
         assert_eq!(rt; check(&one), Err(11));
         is_empty_socket(&rt, &mut one);
         assert_eq!(rt; one[0].program, 0xFF);
-        assert_eq!(rt; one[0].program_count, 0);
-        assert_eq!(rt; one[0].erase_count, 0);
+        assert_eq!(rt; one[0].program_strikes.count, 0);
+        assert_eq!(rt; one[0].erase_strikes.count, 0);
         // records with a past: a byte programmed, a count
         let mut two = [Place::new(0, 7); 2];
         let mut chip: SlowChip = TableChip::new(&mut two, AM28F256);
@@ -328,14 +328,14 @@ mod tests {
         is_empty_socket(&rt, &mut three);
         // the strikes were at place 0 and, of the erase, at every place
         for place in three.iter() {
-            assert_eq!(rt; place.erase_delay, 7);
-            assert_eq!(rt; place.erase_count, 0);
+            assert_eq!(rt; place.erase_strikes.delay, 7);
+            assert_eq!(rt; place.erase_strikes.count, 0);
         }
         assert_eq!(rt; three[0].erase, 0x3C);
         assert_eq!(rt; three[0].read, 0x3C);
         assert_eq!(rt; three[0].program, 0x3C);
-        assert_eq!(rt; three[0].program_count, 1);
-        assert_eq!(rt; three[2].program_count, 0);
+        assert_eq!(rt; three[0].program_strikes.count, 1);
+        assert_eq!(rt; three[2].program_strikes.count, 0);
     }
 
     #[test]
@@ -349,7 +349,7 @@ mod tests {
         }
         chip.set_voltage(Voltage::Low);
         assert_eq!(rt; table[2].program, 0x00);
-        assert_eq!(rt; table[2].program_count, 4);
+        assert_eq!(rt; table[2].program_strikes.count, 4);
         let chip: SlowChip = TableChip::new(&mut table, AM28F256);
         assert_eq!(rt; chip.register.mode, Mode::Read);
         assert_eq!(rt; chip.register.voltage, Voltage::Low);
@@ -358,9 +358,9 @@ mod tests {
         assert_eq!(rt; table[2].erase, 0xFF);
         assert_eq!(rt; table[2].read, 0xFF);
         assert_eq!(rt; table[2].program, 0xFF);
-        assert_eq!(rt; table[2].program_count, 0);
-        assert_eq!(rt; table[2].program_delay, 3);
-        assert_eq!(rt; table[2].erase_delay, 4);
+        assert_eq!(rt; table[2].program_strikes.count, 0);
+        assert_eq!(rt; table[2].program_strikes.delay, 3);
+        assert_eq!(rt; table[2].erase_strikes.delay, 4);
     }
 
     #[test]
