@@ -27,13 +27,10 @@ seen_by there back n m = record {
   register = register_seen back n m.register;
 }
 
-cond_marks : (back : ℕ → ℕ → ℕ) (n : ℕ) (b : Bool) (x y u v : Marks) → x ≡ marks_seen back n u → y ≡ marks_seen back n v → cond b x y ≡ marks_seen back n (cond b u v)
-cond_marks back n true x y u v p q = p
-cond_marks back n false x y u v p q = q
-
-cond_mode : (back : ℕ → ℕ → ℕ) (n : ℕ) (b : Bool) (x y u v : Mode) → x ≡ mode_seen back n u → y ≡ mode_seen back n v → cond b x y ≡ mode_seen back n (cond b u v)
-cond_mode back n true x y u v p q = p
-cond_mode back n false x y u v p q = q
+-- a choice seen through f is the choice between what is seen
+cond_seen : {A : Type 0} (f : A → A) (b : Bool) (x y u v : A) → x ≡ f u → y ≡ f v → cond b x y ≡ f (cond b u v)
+cond_seen f true x y u v p q = p
+cond_seen f false x y u v p q = q
 
 module _ (there back : ℕ → ℕ → ℕ) (n : ℕ) (pos : 0 < n) (x : Crosses (there n) (back n) n) where
   -- PLACES
@@ -81,10 +78,10 @@ module _ (there back : ℕ → ℕ → ℕ) (n : ℕ) (pos : 0 < n) (x : Crosses
   ended_seen zeroed Sign k = refl
   ended_seen zeroed Idle k = refl
   ended_seen zeroed ProgramSetup k = refl
-  ended_seen zeroed (Programming p d t) k = cond_marks back n (nat_lt t 10) _ _ _ _ refl (after_program_seen p k)
+  ended_seen zeroed (Programming p d t) k = cond_seen (marks_seen back n) (nat_lt t 10) _ _ _ _ refl (after_program_seen p k)
   ended_seen zeroed (ProgramVerify p t) k = refl
   ended_seen zeroed EraseSetup k = refl
-  ended_seen zeroed (Erasing t) k = cond_marks back n (nat_lt t 10000) _ _ _ _ refl refl
+  ended_seen zeroed (Erasing t) k = cond_seen (marks_seen back n) (nat_lt t 10000) _ _ _ _ refl refl
   ended_seen zeroed (EraseVerify p t) k = refl
 
   resets_seen : (m : Mode) (b : ℕ) → resets (mode_seen back n m) b ≡ resets m b
@@ -110,12 +107,12 @@ module _ (there back : ℕ → ℕ → ℕ) (n : ℕ) (pos : 0 < n) (x : Crosses
 
   commanded_seen : (a b : ℕ) (u v : Mode) → u ≡ mode_seen back n v → commanded n a b u ≡ mode_seen back n (commanded n (across there n a) b v)
   commanded_seen a b u v e =
-      cond_mode back n (b == 0x00) _ _ _ _ refl
-      (cond_mode back n (b == 0x90) _ _ _ _ refl
-      (cond_mode back n (b == 0x20) _ _ _ _ refl
-      (cond_mode back n (b == 0x40) _ _ _ _ refl
-      (cond_mode back n (b == 0xA0) _ _ _ _ (ap (λ p. EraseVerify p 0) (sym (back_of_there a)))
-      (cond_mode back n (b == 0xC0) _ _ _ _ e refl)))))
+      cond_seen (mode_seen back n) (b == 0x00) _ _ _ _ refl
+      (cond_seen (mode_seen back n) (b == 0x90) _ _ _ _ refl
+      (cond_seen (mode_seen back n) (b == 0x20) _ _ _ _ refl
+      (cond_seen (mode_seen back n) (b == 0x40) _ _ _ _ refl
+      (cond_seen (mode_seen back n) (b == 0xA0) _ _ _ _ (ap (λ p. EraseVerify p 0) (sym (back_of_there a)))
+      (cond_seen (mode_seen back n) (b == 0xC0) _ _ _ _ e refl)))))
 
   chosen_seen : (a b : ℕ) (m : Mode) → chosen n a b (mode_seen back n m) ≡ mode_seen back n (chosen n (across there n a) b m)
   chosen_seen a b Read = commanded_seen a b Idle Idle refl
@@ -124,7 +121,7 @@ module _ (there back : ℕ → ℕ → ℕ) (n : ℕ) (pos : 0 < n) (x : Crosses
   chosen_seen a b ProgramSetup = ap (λ p. Programming p b 0) (sym (back_of_there a))
   chosen_seen a b (Programming p d t) = commanded_seen a b (ProgramVerify (across back n p) 0) (ProgramVerify p 0) refl
   chosen_seen a b (ProgramVerify p t) = commanded_seen a b Idle Idle refl
-  chosen_seen a b EraseSetup = cond_mode back n (b == 0x20) _ _ _ _ refl refl
+  chosen_seen a b EraseSetup = cond_seen (mode_seen back n) (b == 0x20) _ _ _ _ refl refl
   chosen_seen a b (Erasing t) = commanded_seen a b Idle Idle refl
   chosen_seen a b (EraseVerify p t) = commanded_seen a b Idle Idle refl
 

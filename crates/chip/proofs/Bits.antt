@@ -1,5 +1,5 @@
 -- Bytes within bytes, bit by bit.
-use Rattle.std.proofs.Common.{◌≡◌, ℕ, ◌/◌, ◌^◌, ◌<◌, ◌≤◌, min, ap, ◌∙◌, mod-eq_of_lt, arith}
+use Rattle.std.proofs.Common.{◌≡◌, ℕ, ◌/◌, ◌^◌, ◌<◌, min, ap, ◌∙◌, mod-eq_of_lt, arith}
 use lib.Bits.{bit_and, and_shr, and_step, and_mask}
 use Rattle.chip.specs.Rules.{Within, bit}
 
@@ -18,11 +18,8 @@ within_and x y d p k = rw (bit-bit_and k x d, bit-bit_and k y d) (omega (arith, 
 pub and_within : (x d : ℕ) → Within (bit_and x d) x
 and_within x d k = rw (bit-bit_and k x d) (omega arith)
 
-bit_top : (k x : ℕ) → bit k x ≤ 1
-bit_top k x = omega arith
-
 pub and_keeps : (x d k : ℕ) → bit k d ≡ 1 → bit k (bit_and x d) ≡ bit k x
-and_keeps x d k e = rw (bit-bit_and k x d) (omega (arith, bit_top k x))
+and_keeps x d k e = rw (bit-bit_and k x d) (omega arith)
 
 and_full : (x : ℕ) → x < 256 → bit_and x 255 ≡ x
 and_full x h = and_mask x 8 ∙ mod-eq_of_lt h

@@ -1,7 +1,7 @@
 -- A new place gives way as its delays say.
-use Rattle.std.proofs.Common.{◌≡◌, ℕ, zero, suc, ◌<◌, ◌≤◌, Bool, true, false, cond, ◌⊎◌, refl, ap, ◌∙◌, inl, inr, ⊎_elim, mod-eq_of_lt, arith}
+use Rattle.std.proofs.Common.{◌≡◌, ℕ, zero, suc, ◌<◌, ◌≤◌, ◌⊎◌, refl, ap, ◌∙◌, inl, inr, ⊎_elim, mod-eq_of_lt, arith}
 use lib.Bits.{bit_and, and_comm, and_mask, and_self}
-use Rattle.std.proofs.lemmas.Bool.{lt-ltb, le-ltb}
+use Rattle.std.proofs.lemmas.Bool.{lt-ltb, le-ltb, cond-true, cond-false, cond_both}
 use Rattle.places.specs.Cells.{Cell, made_cell, more, programmed, erased}
 use Rattle.places.specs.Delays.{times, at_zero, Programs, Erases, GivesWay}
 
@@ -16,14 +16,6 @@ Way d x = (x ≡ 0xFF) ⊎ (x ≡ d)
 
 and_way : (d x : ℕ) → d < 256 → Way d x → bit_and x d ≡ d
 and_way d x h w = ⊎_elim (λ e. ap (λ (y : ℕ). bit_and y d) e ∙ and_comm 0xFF d ∙ and_mask d 8 ∙ mod-eq_of_lt h) (λ e. ap (λ (y : ℕ). bit_and y d) e ∙ and_self d) w
-
-kept_way : (b : Bool) (d x : ℕ) → d < 256 → Way d x → Way d (cond b x (bit_and x d))
-kept_way true d x h w = w
-kept_way false d x h w = inr (and_way d x h w)
-
-cleared_way : (b : Bool) (d x : ℕ) → d < 256 → Way d x → Way d (cond b (bit_and x d) x)
-cleared_way true d x h w = inr (and_way d x h w)
-cleared_way false d x h w = w
 
 record ProgrammingPlace (delay k d : ℕ) (c : Cell) : Type 0 where
   pub count : c.program_count ≡ k
@@ -51,19 +43,19 @@ program_more p k d c l h s =
     record {
       count = n;
       same = e;
-      way_E = kept_way _ d c.E h s.way_E;
-      way_R = kept_way _ d c.R h s.way_R;
-      way_P = cleared_way _ d c.P h s.way_P;
+      way_E = cond_both _ c.E (bit_and c.E d) (Way d) (λ _. s.way_E) (λ _. inr (and_way d c.E h s.way_E));
+      way_R = cond_both _ c.R (bit_and c.R d) (Way d) (λ _. s.way_R) (λ _. inr (and_way d c.R h s.way_R));
+      way_P = cond_both _ (bit_and c.P d) c.P (Way d) (λ _. inr (and_way d c.P h s.way_P)) (λ _. s.way_P);
       told = record {
         not_yet = λ q.
             let b = lt-ltb (more c.program_count) c.program_delay (omega arith) in
             let t = s.told.not_yet (omega arith) in
-            (ap (λ (x : Bool). cond x c.E (bit_and c.E d)) b ∙ t.0, ap (λ (x : Bool). cond x c.R (bit_and c.R d)) b ∙ t.1);
+            (cond-true _ _ _ b ∙ t.0, cond-true _ _ _ b ∙ t.1);
         reads = λ _ q.
             let b = le-ltb (more c.program_count) c.program_delay (omega arith) in
-            (ap (λ (x : Bool). cond x c.E (bit_and c.E d)) b ∙ and_way d c.E h s.way_E, ap (λ (x : Bool). cond x c.R (bit_and c.R d)) b ∙ and_way d c.R h s.way_R);
-        not_firmly = λ q. ap (λ (x : Bool). cond x (bit_and c.P d) c.P) (le-ltb c.program_delay (more c.program_count) (omega arith)) ∙ s.told.not_firmly (omega arith);
-        firmly = λ q. ap (λ (x : Bool). cond x (bit_and c.P d) c.P) (lt-ltb c.program_delay (more c.program_count) (omega arith)) ∙ and_way d c.P h s.way_P;
+            (cond-false _ _ _ b ∙ and_way d c.E h s.way_E, cond-false _ _ _ b ∙ and_way d c.R h s.way_R);
+        not_firmly = λ q. cond-false _ _ _ (le-ltb c.program_delay (more c.program_count) (omega arith)) ∙ s.told.not_firmly (omega arith);
+        firmly = λ q. cond-true _ _ _ (lt-ltb c.program_delay (more c.program_count) (omega arith)) ∙ and_way d c.P h s.way_P;
       };
     }
 
@@ -97,12 +89,12 @@ erase_more e k c l s =
         not_yet = λ q.
             let b = lt-ltb (more c.erase_count) c.erase_delay (omega arith) in
             let t = s.told.not_yet (omega arith) in
-            (ap (λ (x : Bool). cond x c.R 0xFF) b ∙ t.0, ap (λ (x : Bool). cond x c.P 0xFF) b ∙ t.1);
+            (cond-true _ _ _ b ∙ t.0, cond-true _ _ _ b ∙ t.1);
         reads = λ _ q.
             let b = le-ltb (more c.erase_count) c.erase_delay (omega arith) in
-            (ap (λ (x : Bool). cond x c.R 0xFF) b, ap (λ (x : Bool). cond x c.P 0xFF) b);
-        not_firmly = λ q. ap (λ (x : Bool). cond x 0xFF c.E) (le-ltb c.erase_delay (more c.erase_count) (omega arith)) ∙ s.told.not_firmly (omega arith);
-        firmly = λ q. ap (λ (x : Bool). cond x 0xFF c.E) (lt-ltb c.erase_delay (more c.erase_count) (omega arith));
+            (cond-false _ _ _ b, cond-false _ _ _ b);
+        not_firmly = λ q. cond-false _ _ _ (le-ltb c.erase_delay (more c.erase_count) (omega arith)) ∙ s.told.not_firmly (omega arith);
+        firmly = λ q. cond-true _ _ _ (lt-ltb c.erase_delay (more c.erase_count) (omega arith));
       };
     }
 

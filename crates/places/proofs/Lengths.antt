@@ -4,7 +4,7 @@ use Rattle.std.proofs.Math.Pow.{pow_mono}
 use Rattle.std.proofs.lemmas.Nat.{ones_le_self, zero_from_ones}
 use Rattle.std.specs.Int.Count.{ones_step}
 use Rattle.std.specs.Int.RustNames.{count_ones}
-use Rattle.std.proofs.lemmas.Bool.{eqb-true, eqb-false, eq-eqb, both_ways}
+use Rattle.std.proofs.lemmas.Bool.{eqb-true, eqb-false, eq-eqb, both_ways, cond-true, cond_both}
 use Rattle.chip.specs.Rules.{Sized}
 use Rattle.places.specs.Lengths.{power_to, fits}
 
@@ -24,24 +24,13 @@ sized_power : (k j n : ℕ) → 1 ≤ j → j ≤ k → n ≡ 2 ^ j → power_to
 sized_power zero j n l m e = absurd (omega arith)
 sized_power (suc k) j n l m e = go (eqb j (suc k)) refl (λ h. sized_power k j n l h e)
   where
-    past : (b : Bool) → power_to k n ≡ true → cond b true (power_to k n) ≡ true
-    past true q = refl
-    past false q = q
-
     go : (b : Bool) → eqb j (suc k) ≡ b → (j ≤ k → power_to k n ≡ true) → cond (eqb n (2 ^ suc k)) true (power_to k n) ≡ true
-    go true f r = ap (λ (x : Bool). cond x true (power_to k n)) (eq-eqb n (2 ^ suc k) (e ∙ ap (λ (i : ℕ). 2 ^ i) (eqb-true j (suc k) f)))
-    go false f r = past (eqb n (2 ^ suc k)) (r (let x = eqb-false j (suc k) f in omega arith))
+    go true f r = cond-true _ true _ (eq-eqb n (2 ^ suc k) (e ∙ ap (λ (i : ℕ). 2 ^ i) (eqb-true j (suc k) f)))
+    go false f r = cond_both _ true _ (λ (x : Bool). x ≡ true) (λ _. refl) (λ _. r (let x = eqb-false j (suc k) f in omega arith))
 
 pub sized_fits : (n : ℕ) → Sized n → fits n ≡ true
 unfolding fits
 sized_fits n z = sized_power 15 z.lines n z.least z.most z.power
-
-pub unfit : (n : ℕ) → (Sized n → ⊥) → fits n ≡ false
-unfit n h = go (fits n) refl
-  where
-    go : (b : Bool) → fits n ≡ b → b ≡ false
-    go true e = absurd (h (fits_sized n e))
-    go false e = refl
 
 -- A power of two has one digit set, and no other number has one alone.
 power_ones : (k : ℕ) → count_ones (2 ^ k) ≡ 1
@@ -75,4 +64,4 @@ sized_bounds n z =
     (omega (arith, l, z.power), omega (arith, m, z.power))
 
 -- what the size of a table rests on
-pub ruleset measuring = (sized_fits, unfit, sized_ones, ones_sized, sized_bounds)
+pub ruleset measuring = (sized_fits, fits_sized, sized_ones, ones_sized, sized_bounds)

@@ -5,7 +5,7 @@ use Rattle.std.proofs.lemmas.List.{get_or-map, length-map}
 use Rattle.std.proofs.lemmas.List.Elements.{All-get_or}
 use Rattle.std.proofs.lemmas.List.Sums.{AllPass-from_list_all}
 use Rattle.std.specs.Prelude.{◌&&◌}
-use Rattle.std.proofs.lemmas.Bool.{eqb-true, eqb-false, le-ltb, both_ways}
+use Rattle.std.proofs.lemmas.Bool.{eqb-true, eqb-false, le-ltb, both_ways, cond-true, cond-false, cond_both}
 use Rattle.chip.specs.Rules.{Within, bit, Cycle, write, read, sign, wait, supply, Meaning, Step, Sized, Nested, Ordered, Zeroed, Strike, none, program, erase, May, Answers, Shown, Signed, strike, after}
 use Rattle.chip.specs.declared.state.Code.{Code}
 use Rattle.chip.specs.declared.state.Code.TheVariants.{Maker, Device}
@@ -36,21 +36,11 @@ places_nested (p ∷ ps) (suc a) l = places_nested ps a (le_of_suc-le-suc l)
 abbrev Clears : ℕ → ℕ → ℕ → Type 0
 Clears d x y = Within y x × ((k : ℕ) → bit k d ≡ 1 → bit k y ≡ bit k x)
 
-kept_or_cleared : (b : Bool) (x d : ℕ) → Clears d x (cond b x (bit_and x d))
-kept_or_cleared true x d = (within_refl x, λ _ _. refl)
-kept_or_cleared false x d = (and_within x d, λ k e. and_keeps x d k e)
+cleared : (d x : ℕ) → Clears d x (bit_and x d)
+cleared d x = (and_within x d, λ k e. and_keeps x d k e)
 
-cleared_or_kept : (b : Bool) (x d : ℕ) → Clears d x (cond b (bit_and x d) x)
-cleared_or_kept true x d = (and_within x d, λ k e. and_keeps x d k e)
-cleared_or_kept false x d = (within_refl x, λ _ _. refl)
-
-set_or_kept : (b : Bool) (x : ℕ) → x < 256 → Within x (cond b 0xFF x)
-set_or_kept true x h = within_full x h
-set_or_kept false x h = within_refl x
-
-kept_or_set : (b : Bool) (x : ℕ) → x < 256 → Within x (cond b x 0xFF)
-kept_or_set true x h = within_refl x
-kept_or_set false x h = within_full x h
+unmoved : (d x : ℕ) → Clears d x x
+unmoved d x = (within_refl x, λ _ _. refl)
 
 pub record Moved (f : Strike) (a : ℕ) (c e : Cell) : Type 0 where
   pub E : May f a c.E e.E
@@ -70,14 +60,18 @@ moved (program p d) cs a h b =
     λ e. ap (λ (x : ℕ). get_or (slice_set cs x (programmed d (slice_index_or cs x beyond))) a beyond) (sym e) ∙ get_or-set_same cs a (programmed d c) beyond h in
     let off : (a ≢ p) → slice_index_or (slice_set cs p (programmed d (slice_index_or cs p beyond))) a beyond ≡ c = λ n. get_or-set_other cs p a (programmed d (slice_index_or cs p beyond)) beyond n in
     record {
-      E = (λ e. subst (λ (x : Cell). Clears d c.E x.E) (sym (at e)) (kept_or_cleared _ c.E d), λ n. ap (λ (x : Cell). x.E) (off n));
-      R = (λ e. subst (λ (x : Cell). Clears d c.R x.R) (sym (at e)) (kept_or_cleared _ c.R d), λ n. ap (λ (x : Cell). x.R) (off n));
-      P = (λ e. subst (λ (x : Cell). Clears d c.P x.P) (sym (at e)) (cleared_or_kept _ c.P d), λ n. ap (λ (x : Cell). x.P) (off n));
+      E = (λ e. subst (λ (x : Cell). Clears d c.E x.E) (sym (at e)) (cond_both _ c.E _ (Clears d c.E) (λ _. unmoved d c.E) (λ _. cleared d c.E)), λ n. ap (λ (x : Cell). x.E) (off n));
+      R = (λ e. subst (λ (x : Cell). Clears d c.R x.R) (sym (at e)) (cond_both _ c.R _ (Clears d c.R) (λ _. unmoved d c.R) (λ _. cleared d c.R)), λ n. ap (λ (x : Cell). x.R) (off n));
+      P = (λ e. subst (λ (x : Cell). Clears d c.P x.P) (sym (at e)) (cond_both _ _ c.P (Clears d c.P) (λ _. cleared d c.P) (λ _. unmoved d c.P)), λ n. ap (λ (x : Cell). x.P) (off n));
     }
 moved erase cs a h b =
     let c = get_or cs a beyond in
     subst (λ (x : Cell). Moved erase a c x) (sym (get_or-map erased cs a beyond beyond h))
-    (record { E = set_or_kept _ c.E b.byte_e; R = kept_or_set _ c.R b.byte_r; P = kept_or_set _ c.P b.byte_p })
+    (record {
+      E = cond_both _ 0xFF c.E (Within c.E) (λ _. within_full c.E b.byte_e) (λ _. within_refl c.E);
+      R = cond_both _ c.R 0xFF (Within c.R) (λ _. within_refl c.R) (λ _. within_full c.R b.byte_r);
+      P = cond_both _ c.P 0xFF (Within c.P) (λ _. within_refl c.P) (λ _. within_full c.P b.byte_p);
+    })
 
 -- WHOLLY AT ZERO
 
@@ -116,7 +110,7 @@ tells s true e = all_clear s.cells e
 tells s false e = some_left s.cells e
 
 late : (t v x : ℕ) → v ≡ cond (nat_lt t 6) 0xFF x → 6 ≤ t → v ≡ x
-late t v x e h = e ∙ ap (λ (b : Bool). cond b 0xFF x) (le-ltb t 6 h)
+late t v x e h = e ∙ cond-false _ 0xFF x (le-ltb t 6 h)
 
 shown : (m : Mode) (s : State) (a v : ℕ) → v ≡ shows m s.cells a → Shown m (working s) a v
 shown Read s a v e = e
@@ -150,26 +144,18 @@ shows_byte Sign cs a h o = lit< tt
 shows_byte Idle cs a h o = lit< tt
 shows_byte ProgramSetup cs a h o = lit< tt
 shows_byte (Programming p d t) cs a h o = lit< tt
-shows_byte (ProgramVerify p t) cs a h o = go (nat_lt t 6)
-  where
-    go : (b : Bool) → cond b 0xFF (get_or cs (p % length cs) beyond).P < 256
-    go true = lit< tt
-    go false = (o (p % length cs) (mod-lt p h)).byte_p
+shows_byte (ProgramVerify p t) cs a h o = cond_both (nat_lt t 6) 0xFF _ (λ (v : ℕ). v < 256) (λ _. lit< tt) (λ _. (o (p % length cs) (mod-lt p h)).byte_p)
 shows_byte EraseSetup cs a h o = lit< tt
 shows_byte (Erasing t) cs a h o = lit< tt
-shows_byte (EraseVerify p t) cs a h o = go (nat_lt t 6)
-  where
-    go : (b : Bool) → cond b 0xFF (get_or cs (p % length cs) beyond).E < 256
-    go true = lit< tt
-    go false = (o (p % length cs) (mod-lt p h)).byte_e
+shows_byte (EraseVerify p t) cs a h o = cond_both (nat_lt t 6) 0xFF _ (λ (v : ℕ). v < 256) (λ _. lit< tt) (λ _. (o (p % length cs) (mod-lt p h)).byte_e)
 
 answers : (s : State) (c : Cycle) → fits (length s.cells) ≡ true → AllNested s.cells → Says s c → Answers (working s) c
 answers s (write a b) l o h = tt
 answers s (read a v) l o h =
-    let e : v ≡ shows s.register.mode s.cells a = h ∙ ap (λ (b : Bool). cond b (shows s.register.mode s.cells a) 0xFF) l in
+    let e : v ≡ shows s.register.mode s.cells a = h ∙ cond-true _ _ 0xFF l in
     let n = sized_pos _ (fits_sized _ l) in
     (subst (λ (x : ℕ). x < 256) (sym e) (shows_byte s.register.mode s.cells a n o), shown s.register.mode s a v e)
-answers s (sign c v) l o h = (h.1, signed s.register.mode s c v (h.0 ∙ ap (λ (b : Bool). cond b (signs s.register.mode (code_of c s)) 0xFF) l))
+answers s (sign c v) l o h = (h.1, signed s.register.mode s c v (h.0 ∙ cond-true _ _ 0xFF l))
 answers s (wait w) l o h = tt
 answers s (supply v) l o h = tt
 
@@ -201,8 +187,8 @@ work s c l o q h =
 
 floats : (s : State) (c : Cycle) → fits (length s.cells) ≡ false → Says s c → Floats c
 floats s (write a b) l h = tt
-floats s (read a v) l h = h ∙ ap (λ (b : Bool). cond b (shows s.register.mode s.cells a) 0xFF) l
-floats s (sign c v) l h = h.0 ∙ ap (λ (b : Bool). cond b (signs s.register.mode (code_of c s)) 0xFF) l
+floats s (read a v) l h = h ∙ cond-false _ _ 0xFF l
+floats s (sign c v) l h = h.0 ∙ cond-false _ _ 0xFF l
 floats s (wait w) l h = tt
 floats s (supply v) l h = tt
 
@@ -220,37 +206,33 @@ by_test b c s = record {
   register = after (cond b (length s.cells) 32768) (cond b (zeroed s.cells) false) c s.register;
 }
 
-abbrev pub meant_by : Bool → State → Meaning
-meant_by b s = cond b (working s) (vacant s.register)
+meant_working : (s : State) → fits (length s.cells) ≡ true → meant s ≡ working s
+meant_working s l = cond-true _ _ _ l
+
+meant_vacant : (s : State) → fits (length s.cells) ≡ false → meant s ≡ vacant s.register
+meant_vacant s l = cond-false _ _ _ l
+
+-- what holds of a chip at work and of an empty socket holds of either
+by_length : (s : State) (P : Meaning → Type 0) → (fits (length s.cells) ≡ true → P (working s)) → (fits (length s.cells) ≡ false → P (vacant s.register)) → P (meant s)
+by_length s P w v = cond_both (fits (length s.cells)) _ _ P w v
 
 pub state_lawful : (s : State) (c : Cycle) (t : State) → AllNested s.cells → AllNested t.cells → t ≡ next c s → Says s c → Step (meant s) c (meant t)
-state_lawful s c t o q e h = go (fits (length s.cells)) refl
-  where
-    go : (b : Bool) → fits (length s.cells) ≡ b → Step (meant s) c (meant t)
-    go true l =
-        let f = strike (length s.cells) c s.register.voltage s.register.mode in
-        let u : t ≡ driven c s = e ∙ ap (λ (b : Bool). by_test b c s) l in
-        let k : fits (length t.cells) ≡ true = ap (λ (x : State). fits (length x.cells)) u ∙ ap fits (struck_length f s.cells) ∙ l in
-        let w = work s c l o (subst (λ (x : State). AllNested x.cells) u q) h in
-        subst (λ (x : Meaning). Step x c (meant t)) (sym (ap (λ (b : Bool). meant_by b s) l))
-        (subst (λ (x : Meaning). Step (working s) c x) (sym (ap (λ (b : Bool). meant_by b t) k ∙ ap working u)) w)
-    go false l =
-        let u : t ≡ vacated c s = e ∙ ap (λ (b : Bool). by_test b c s) l in
-        let k : fits (length t.cells) ≡ false = ap (λ (x : State). fits (length x.cells)) u ∙ l in
-        subst (λ (x : Meaning). Step x c (meant t)) (sym (ap (λ (b : Bool). meant_by b s) l))
-        (subst (λ (x : Meaning). Step (vacant s.register) c x) (sym (ap (λ (b : Bool). meant_by b t) k ∙ ap (λ (x : State). vacant x.register) u))
-        (vacant_lawful s.register c (after 32768 false c s.register) refl (floats s c l h)))
+state_lawful s c t o q e h =
+    by_length s (λ (x : Meaning). Step x c (meant t))
+    (λ l.
+    let f = strike (length s.cells) c s.register.voltage s.register.mode in
+    let u : t ≡ driven c s = e ∙ ap (λ (b : Bool). by_test b c s) l in
+    let k : fits (length t.cells) ≡ true = ap (λ (x : State). fits (length x.cells)) u ∙ ap fits (struck_length f s.cells) ∙ l in
+    let w = work s c l o (subst (λ (x : State). AllNested x.cells) u q) h in
+    subst (λ (x : Meaning). Step (working s) c x) (sym (meant_working t k ∙ ap working u)) w)
+    (λ l.
+    let u : t ≡ vacated c s = e ∙ ap (λ (b : Bool). by_test b c s) l in
+    let k : fits (length t.cells) ≡ false = ap (λ (x : State). fits (length x.cells)) u ∙ l in
+    subst (λ (x : Meaning). Step (vacant s.register) c x) (sym (meant_vacant t k ∙ ap (λ (x : State). vacant x.register) u))
+    (vacant_lawful s.register c (after 32768 false c s.register) refl (floats s c l h)))
 
 pub state_ordered : (s : State) → AllNested s.cells → Ordered (meant s)
-state_ordered s o = go (fits (length s.cells)) refl
-  where
-    go : (b : Bool) → fits (length s.cells) ≡ b → Ordered (meant s)
-    go true l = subst Ordered (sym (ap (λ (b : Bool). meant_by b s) l)) (record { nested = o })
-    go false l = subst Ordered (sym (ap (λ (b : Bool). meant_by b s) l)) (vacant_ordered s.register)
+state_ordered s o = by_length s Ordered (λ _. record { nested = o }) (λ _. vacant_ordered s.register)
 
 pub state_sized : (s : State) → Sized (meant s).size
-state_sized s = go (fits (length s.cells)) refl
-  where
-    go : (b : Bool) → fits (length s.cells) ≡ b → Sized (meant s).size
-    go true l = subst (λ (x : Meaning). Sized x.size) (sym (ap (λ (b : Bool). meant_by b s) l)) (fits_sized (length s.cells) l)
-    go false l = subst (λ (x : Meaning). Sized x.size) (sym (ap (λ (b : Bool). meant_by b s) l)) vacant_sized
+state_sized s = by_length s (λ (x : Meaning). Sized x.size) (λ l. fits_sized (length s.cells) l) (λ _. vacant_sized)
