@@ -11,7 +11,8 @@ pub struct Strikes {
 
 // Eight cells under erase margin, in ordinary reading and under program margin. They give way
 // to a kind of strike once its count reaches its delay, and wholly once it is past it.
-// A strike of one kind adds to its own count and makes the other 0.
+// A strike of one kind adds to its own count and makes the other 0. The order is a fact of each place and
+// of no view of it: the laws of a chip read it off whatever table of places there is.
 #[derive(Clone, Copy, Debug, PartialEq)]
 pub struct Place {
     pub erase: u8,

@@ -56,7 +56,7 @@ fn all_zeroed(table: &[Place]) -> bool
 }
 
 // A slice that the caller lends.
-impl<'a> PlaceTable for &'a mut [Place] {
+impl PlaceTable for &mut [Place] {
     ghost places = { λ s. s.now };
 
     ghost lender = { λ s. s.ghost_name };
