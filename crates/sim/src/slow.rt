@@ -2,7 +2,7 @@
 ghost use Rattle.std.specs.Prelude.{◌≡◌};
 ghost use Rattle.places.specs.Cells.{cells};
 ghost use Rattle.sim.specs.Making.{Made};
-ghost use Rattle.sim.specs.Trials.{Works, state, meant, size_of, next, pulsed, reading, signature, Says};
+ghost use Rattle.sim.specs.Trials.{Works, state, meant, size_of, next, pulsed, Says};
 ghost use Rattle.sim.specs.TrialsLemmas.{places_nested, state_lawful, state_ordered, state_sized};
 
 use chip::timing::SETTLING;
@@ -45,30 +45,6 @@ impl<T: PlaceTable> TableChip<T> {
         ensures { Works (cells (T.PlaceTable.places self.now.table)) result }
     {
         chip_size(self.table.count())
-    }
-
-    fn reading(&self, address: u16) -> u8
-        ensures { result ≡ reading (state T.PlaceTable.places self.now) address }
-    {
-        let Some(size) = self.working_size() else {
-            return FLOATING;
-        };
-        let place_at = |address: u16| self.table.place(usize::from(address % size));
-        match self.register.mode {
-            Mode::Read => place_at(address).read,
-            Mode::ProgramVerify { place, time } if time >= SETTLING => place_at(place).program,
-            Mode::EraseVerify { place, time } if time >= SETTLING => place_at(place).erase,
-            _ => FLOATING,
-        }
-    }
-
-    fn signature(&self, code: Code) -> u8
-        ensures { result ≡ signature (state T.PlaceTable.places self.now) code }
-    {
-        match self.register.mode {
-            Mode::Sign if self.working_size().is_some() => self.signature.byte(code),
-            _ => NO_CODE,
-        }
     }
 
     // The pulse that may be open ends: it strikes, and leaves its mark.
@@ -121,11 +97,24 @@ impl<T: PlaceTable> Chip for TableChip<T> {
     }
 
     fn read_cycle(&mut self, address: u16) -> u8 {
-        self.reading(address)
+        let Some(size) = self.working_size() else {
+            return FLOATING;
+        };
+        let mode = self.register.mode;
+        let place_at = |address: u16| self.table.place(usize::from(address % size));
+        match mode {
+            Mode::Read => place_at(address).read,
+            Mode::ProgramVerify { place, time } if time >= SETTLING => place_at(place).program,
+            Mode::EraseVerify { place, time } if time >= SETTLING => place_at(place).erase,
+            _ => FLOATING,
+        }
     }
 
     fn signature_cycle(&mut self, code: Code) -> u8 {
-        self.signature(code)
+        match self.register.mode {
+            Mode::Sign if self.working_size().is_some() => self.signature.byte(code),
+            _ => NO_CODE,
+        }
     }
 
     fn wait(&mut self, micros: u16) {
