@@ -69,7 +69,8 @@ pub struct Turn {
     pub longest: u16,
 }
 
-// A run: the full erase pulses with no full program pulse between.
+// A run: the full erase pulses with no full program pulse between. Turn and run each have a length and the longest
+// so far as fields of their own: the rules name them so.
 #[derive(Clone, Copy, Debug, Default, PartialEq)]
 pub struct Run {
     pub length: u16,

@@ -8,6 +8,7 @@ ghost use Rattle.places.specs.Cells.{Cell, beyond, cell, cells, refreshed, progr
 use crate::place::Place;
 
 pub trait PlaceTable {
+    // the places themselves and not their cells: with them comes the order that each keeps
     ghost places: { Self → List Place };
 
     // who lent the table, and has it back as it is left
