@@ -18,8 +18,8 @@ fn read_text(rt: &HostRuntime) -> anyhow::Result<Vec<u8>> {
     Ok(text)
 }
 
-// Proof-reads standard input, and says whether it is accepted.
-fn run(rt: &HostRuntime) -> anyhow::Result<bool> {
+// Proof-reads standard input, and ends with success where it is accepted.
+fn run(rt: &HostRuntime) -> anyhow::Result<ExitCode> {
     if env::args(rt)?.count() > 1 {
         return Err(anyhow!(
             "takes no arguments, but a profile on standard input: proofread < FILE"
@@ -27,17 +27,17 @@ fn run(rt: &HostRuntime) -> anyhow::Result<bool> {
     }
     let text = read_text(rt)?;
     let mut image = vec![in rt.alloc(); 0xffu8; MAX_IMAGE]?;
-    let answer = fill(&text, &mut image);
-    let accepted = answer.is_ok();
-    let findings = Findings(answer);
+    let findings = Findings(fill(&text, &mut image));
     print!(rt; "{findings}")?;
-    Ok(accepted)
+    Ok(match findings.0 {
+        Ok(_) => ExitCode::SUCCESS,
+        Err(_) => ExitCode::FAILURE,
+    })
 }
 
 fn main(rt: HostRuntime) -> io::Result<ExitCode> {
     match run(&rt) {
-        Ok(true) => Ok(ExitCode::SUCCESS),
-        Ok(false) => Ok(ExitCode::FAILURE),
+        Ok(status) => Ok(status),
         Err(error) => {
             eprintln!(rt; "proofread: {error}")?;
             Ok(ExitCode::FAILURE)
