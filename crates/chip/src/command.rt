@@ -1,6 +1,6 @@
 // The commands, and the bytes that stand for them.
 ghost use Rattle.std.specs.Prelude.{◌≡◌, ◌++◌, Some, codes, decimal};
-ghost use Rattle.chip.specs.Commands.{Stands};
+ghost use Rattle.chip.specs.Commands.{Stands, byte_of};
 
 use std::error::Error;
 use std::fmt;
@@ -8,14 +8,22 @@ use std::fmt;
 // What the command register takes where no setup awaits its second byte.
 #[derive(Clone, Copy, Debug, PartialEq)]
 pub enum Command {
-    Read,
-    Sign,
+    Read = 0x00,
+    Sign = 0x90,
     // Written twice: the setup, then the pulse.
-    Erase,
-    Program,
-    EraseVerify,
-    ProgramVerify,
-    Reset,
+    Erase = 0x20,
+    Program = 0x40,
+    EraseVerify = 0xA0,
+    ProgramVerify = 0xC0,
+    Reset = 0xFF,
+}
+
+impl From<Command> for u8 {
+    ghost from_gives = { λ command byte. byte ≡ byte_of command };
+
+    fn from(command: Command) -> u8 {
+        command as u8
+    }
 }
 
 // A byte that stands for no command.

@@ -11,7 +11,8 @@ pub trait PlaceTable {
     // the places themselves and not their cells: with them comes the order that each keeps
     ghost places: { Self → List Place };
 
-    // who lent the table, and has it back as it is left
+    // who lent the table, and has it back as it is left; each change says that it is the same, since an invariant cannot
+    // tie two moments
     ghost lender: { Self → ℕ };
 
     fn count(&self) -> usize
