@@ -339,6 +339,14 @@ mod tests {
     }
 
     #[test]
+    fn a_refusal_tells_the_length_in_words(rt: HostRuntime) -> Result<(), Fail> {
+        let text = TableFault::Length(3).to_string(rt.alloc())?;
+        let wanted = "no chip has 3 places: a power of two from 2 to 32,768 is asked";
+        assert_eq!(rt; text.as_str(), wanted);
+        Ok(())
+    }
+
+    #[test]
     fn making_refreshes_a_lawful_table_and_keeps_its_delays(rt: HostRuntime) {
         let mut table = [Place::new(3, 4); 4];
         let mut chip: SlowChip = TableChip::new(&mut table, AM28F256);

@@ -3,8 +3,11 @@
 
 #[cfg(test)]
 mod tests {
-    use chip::{Chip, Code, Marks, Mode, Run, Tallies, Turn, Voltage, capacity};
+    use chip::{
+        Chip, Code, Command, Marks, Mode, NoCommand, Run, Tallies, Turn, Voltage, capacity,
+    };
     use socket::EmptySocket;
+    use std::test::Fail;
 
     // A socket at high voltage in this mode, with a turn of 3 at place 7.
     fn socket_in(mode: Mode) -> EmptySocket {
@@ -205,5 +208,14 @@ mod tests {
         socket.write_cycle(0, 0xA0);
         socket.wait(6);
         assert_eq!(rt; socket.read_cycle(0), 0xFF);
+    }
+
+    #[test]
+    fn a_byte_that_is_no_command_is_told(rt: HostRuntime) -> Result<(), Fail> {
+        assert_eq!(rt; Command::try_from(0x90), Ok(Command::Sign));
+        assert_eq!(rt; Command::try_from(0x41), Err(NoCommand(0x41)));
+        let text = NoCommand(0x41).to_string(rt.alloc())?;
+        assert_eq!(rt; text.as_str(), "no command has the byte 65");
+        Ok(())
     }
 }
