@@ -31,37 +31,33 @@ impl fmt::Display for Findings {
 
     fn fmt<W: fmt::Write>(&self, f: &mut fmt::Formatter<W>) -> fmt::Result {
         match self.0 {
-            Ok(
-                Survey {
+            Ok(survey) => {
+                let Survey {
                     records,
                     bytes,
-                    span: None,
-                },
-            ) => write!(
-                f,
-                "verdict: accepted\nrecords: {records}\nbytes: {bytes}\nlowest: none\nhighest: none\n"
-            ),
-            Ok(
-                Survey {
-                    records,
-                    bytes,
-                    span: Some(Span { lowest, highest }),
-                },
-            ) => {
-                let lowest = Place(lowest);
-                let highest = Place(highest);
-                write!(
-                    f,
-                    "verdict: accepted\nrecords: {records}\nbytes: {bytes}\nlowest: {lowest}\nhighest: {highest}\n"
-                )
+                    span,
+                } = survey;
+                match span {
+                    Some(Span { lowest, highest }) => {
+                        let lowest = Place(lowest);
+                        let highest = Place(highest);
+                        write!(
+                            f,
+                            "verdict: accepted\nrecords: {records}\nbytes: {bytes}\nlowest: {lowest}\nhighest: {highest}\n"
+                        )
+                    }
+                    None => write!(
+                        f,
+                        "verdict: accepted\nrecords: {records}\nbytes: {bytes}\nlowest: none\nhighest: none\n"
+                    ),
+                }
             }
-            Err(
-                HexFault {
+            Err(fault) => {
+                let HexFault {
                     reason,
                     line,
                     position,
-                },
-            ) => {
+                } = fault;
                 let number = reason.number();
                 write!(
                     f,

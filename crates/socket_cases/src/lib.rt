@@ -211,8 +211,9 @@ mod tests {
     }
 
     #[test]
-    fn a_byte_that_is_no_command_is_told(rt: HostRuntime) -> Result<(), Fail> {
+    fn a_byte_is_a_command_or_says_that_it_is_none(rt: HostRuntime) -> Result<(), Fail> {
         assert_eq!(rt; Command::try_from(0x90), Ok(Command::Sign));
+        assert_eq!(rt; u8::from(Command::EraseVerify), 0xA0);
         assert_eq!(rt; Command::try_from(0x41), Err(NoCommand(0x41)));
         let text = NoCommand(0x41).to_string(rt.alloc())?;
         assert_eq!(rt; text.as_str(), "no command has the byte 65");
