@@ -7,7 +7,7 @@ use Rattle.chip.specs.declared.state.Mode.{Mode}
 use Rattle.chip.specs.declared.state.Mode.TheVariants.{Read, Sign, Idle, ProgramSetup, Programming, ProgramVerify, EraseSetup, Erasing, EraseVerify}
 use Rattle.places.specs.Cells.{Cell, beyond, cells, programmed, erased, zeroed}
 use Rattle.places.specs.Lengths.{fits}
-use Rattle.socket.specs.Registers.{pulse_ended}
+use Rattle.socket.specs.Registers.{kept, pulse_ended}
 use Rattle.socket.specs.Sockets.{vacant}
 use Rattle.places.specs.declared.place.Place.{Place}
 use Rattle.sim.specs.declared.slow.TableChip.{TableChip}
@@ -24,7 +24,7 @@ pub record State : Type 0 where
 
 -- What a chip over a table holds, the places of the table given.
 abbrev pub state : {T : Type 0} → (T → List Place) → TableChip T → State
-state places c = record { cells = cells (places c.table); maker = c.signature.maker; device = c.signature.device; register = c.register }
+state places c = record { cells = cells (places c.table); maker = c.signature.maker; device = c.signature.device; register = kept c.register }
 
 -- A chip with the table's places, or else an empty socket.
 abbrev pub meant : State → Meaning

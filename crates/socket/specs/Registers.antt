@@ -2,8 +2,12 @@
 use Rattle.std.specs.Prelude.{ℕ, Bool}
 use Rattle.chip.specs.Rules.{Register, ended, after_reset, resets, chosen}
 use Rattle.chip.specs.declared.state.Voltage.{Voltage}
+use Rattle.socket.specs.declared.register.CommandRegister.{CommandRegister}
 use Rattle.chip.specs.declared.state.Voltage.TheVariants.{Low}
 use Rattle.chip.specs.declared.state.Mode.TheVariants.{Read}
+
+abbrev pub kept : CommandRegister → Register
+kept r = record { marks = r.marks; voltage = r.voltage; mode = r.mode }
 
 -- Low voltage, Read, every mark 0.
 abbrev pub fresh : Register

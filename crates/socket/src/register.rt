@@ -1,28 +1,18 @@
 // What a simulated chip keeps besides its cells, and what a cycle makes of it.
 ghost use Rattle.std.specs.Prelude.{◌≡◌, ℕ, true, ◌%◌};
 ghost use Rattle.chip.specs.Rules.{after, wait, after_short, after_program, after_erase, resets, commanded, chosen, timed};
-ghost use Rattle.socket.specs.Registers.{fresh, pulse_ended, told, powered};
+ghost use Rattle.socket.specs.Registers.{kept, fresh, pulse_ended, told, powered};
 
 use chip::timing::{ERASE_PULSE, PROGRAM_PULSE};
 use chip::{Command, Marks, Mode, Voltage};
-use std::marker::Model;
 
+// To the rules it is the register that `kept` makes of it. That is no view of the type (`impl Model`): a struct that holds
+// a type with one is not covered where it is passed by value and used again, as a copy is.
 #[derive(Clone, Copy, Debug, Default, PartialEq)]
 pub struct CommandRegister {
     pub marks: Marks,
     pub voltage: Voltage,
     pub mode: Mode,
-}
-
-// Clauses see the register that the rules speak of.
-impl Model for CommandRegister {
-    ghost use Rattle.chip.specs.Rules.{Register};
-
-    ghost Value = { Register };
-
-    ghost view = { λ r. record { marks = r.marks; voltage = r.voltage; mode = r.mode } };
-
-    ghost inverse = { λ r. record { marks = r.marks; voltage = r.voltage; mode = r.mode } };
 }
 
 // An address modulo the size. No chip has the size 0; modulo 0 an address stays what it is.
@@ -99,7 +89,7 @@ fn let_pass(mode: &mut Mode, micros: u16)
 
 impl CommandRegister {
     pub fn new() -> CommandRegister
-        ensures { result ≡ fresh }
+        ensures { kept result ≡ fresh }
     {
         CommandRegister {
             marks: Marks::default(),
@@ -110,7 +100,7 @@ impl CommandRegister {
 
     // The pulse that may be open ends.
     pub fn pulse_ended(self, size: u16, zeroed: bool) -> CommandRegister
-        ensures { result ≡ pulse_ended size zeroed self }
+        ensures { kept result ≡ pulse_ended size zeroed (kept self) }
     {
         let marks = match self.mode {
             Mode::Programming { place, time, .. } => {
@@ -163,7 +153,7 @@ impl CommandRegister {
 
     // A byte is written at high voltage, after the pulse that was open.
     pub fn told(mut self, size: u16, address: u16, byte: u8) -> CommandRegister
-        ensures { result ≡ told size address byte self }
+        ensures { kept result ≡ told size address byte (kept self) }
     {
         if self.resets(byte) {
             self.marks.turn.length = 0;
@@ -174,7 +164,7 @@ impl CommandRegister {
 
     // The voltage is set, after the pulse that was open.
     pub fn powered(self, voltage: Voltage) -> CommandRegister
-        ensures { result ≡ powered voltage self }
+        ensures { kept result ≡ powered voltage (kept self) }
     {
         CommandRegister {
             marks: self.marks,
@@ -185,7 +175,7 @@ impl CommandRegister {
 
     // Time passes, whatever the size and the cells are.
     pub fn waited(mut self, micros: u16) -> CommandRegister
-        ensures { result ≡ after 0 true (wait micros) self }
+        ensures { kept result ≡ after 0 true (wait micros) (kept self) }
     {
         let_pass(&mut self.mode, micros);
         self

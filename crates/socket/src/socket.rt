@@ -1,6 +1,6 @@
 // A socket with no chip in it: every reading is FFh, and no pulse moves a cell.
 ghost use Rattle.std.specs.Prelude.{◌≡◌};
-ghost use Rattle.socket.specs.Registers.{fresh};
+ghost use Rattle.socket.specs.Registers.{kept, fresh};
 ghost use Rattle.socket.specs.Sockets.{vacant, Floats, vacant_after};
 ghost use Rattle.socket.specs.Vacancy.{vacant_lawful, vacant_ordered, vacant_sized};
 
@@ -23,7 +23,7 @@ pub struct EmptySocket {
 
 impl EmptySocket {
     pub fn new() -> EmptySocket
-        ensures { result.register ≡ fresh }
+        ensures { kept result.register ≡ fresh }
     {
         EmptySocket {
             register: CommandRegister::new(),
@@ -32,13 +32,13 @@ impl EmptySocket {
 }
 
 impl Chip for EmptySocket {
-    ghost meaning = { λ s. vacant s.register };
+    ghost meaning = { λ s. vacant (kept s.register) };
 
-    ghost takes = { λ s c t. (t.register ≡ vacant_after c s.register) × Floats c };
+    ghost takes = { λ s c t. (kept t.register ≡ vacant_after c (kept s.register)) × Floats c };
 
-    ghost lawful = { λ s c t h. vacant_lawful s.register c t.register h.0 h.1 };
+    ghost lawful = { λ s c t h. vacant_lawful (kept s.register) c (kept t.register) h.0 h.1 };
 
-    ghost ordered = { λ s. vacant_ordered s.register };
+    ghost ordered = { λ s. vacant_ordered (kept s.register) };
 
     ghost sized = { λ s. vacant_sized };
 
