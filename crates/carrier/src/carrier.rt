@@ -8,7 +8,7 @@ use crate::crossing::{Crossing, Mirror};
 use chip::{Chip, Code, Voltage};
 
 // A chip in a carrier. The carrier's place a is the chip's place where the crossing takes a.
-#[derive(Drop)]
+#[derive(Debug, Drop)]
 pub struct Carrier<C, X> {
     pub chip: C,
     pub crossing: X,

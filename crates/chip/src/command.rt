@@ -5,7 +5,7 @@ ghost use Rattle.chip.specs.Commands.{Stands, byte_of};
 use std::error::Error;
 use std::fmt;
 
-// What the command register takes where no setup awaits its second byte.
+// What the command register may be told by a byte.
 #[derive(Clone, Copy, Debug, PartialEq)]
 pub enum Command {
     Read = 0x00,
@@ -35,6 +35,7 @@ impl TryFrom<u8> for Command {
 
     ghost try_from_gives = { Stands };
 
+    // Each byte once more: no cast leads from a number to a case.
     fn try_from(byte: u8) -> Result<Command, NoCommand> {
         match byte {
             0x00 => Ok(Command::Read),

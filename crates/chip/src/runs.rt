@@ -5,7 +5,8 @@ ghost use Rattle.chip.specs.Rules.{Sized, Ordered};
 
 use crate::bus::Chip;
 
-// A function of its own: what is proved of runs by hand is handed on, and `capacity` itself needs no proof by hand.
+// A function of its own: on `capacity` itself what runs keep is not found without a proof by hand, and that would be what
+// refuses an edit of it.
 fn places<C: Chip>(chip: &C) -> u16
     ensures places { result ≡ (C.Chip.meaning chip.now).size }
     ensures sized { Sized (C.Chip.meaning chip.now).size }

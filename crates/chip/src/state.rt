@@ -70,7 +70,8 @@ pub struct Turn {
 }
 
 // A run: the full erase pulses with no full program pulse between. Turn and run each have a length and the longest
-// so far as fields of their own: the rules name them so.
+// so far as fields of their own: a struct in common would stand in each path of the rules, which are to be read beside
+// docs/CHIP.md.
 #[derive(Clone, Copy, Debug, Default, PartialEq)]
 pub struct Run {
     pub length: u16,

@@ -17,7 +17,7 @@ pub const MAX_IMAGE: usize = 32_768;
 const BLANK: u8 = 0xff;
 
 // Puts the data of a line that stands at `spot` into the image, unless it reaches past the image or begins below `floor`.
-// Answers where the data ends.
+// Answers where the data ends. Place and pairs are the fields of a `Record`; a struct of the two would be taken apart here.
 fn put(
     image: &mut [u8],
     floor: usize,
@@ -50,7 +50,7 @@ fn place_all(text: &[u8], image: &mut [u8]) -> Result<Survey, HexFault>
     let mut reader = Reader::new(text);
     let mut survey = Survey::default();
     let mut floor = 0;
-    // No `for`: a reader gives a refusal again and again, so as an iterator it would have no end.
+    // Neither `for` nor `while let`: where a line stands is asked before it is read.
     'records: loop {
         let spot = reader.spot();
         match reader.next()? {
@@ -78,6 +78,7 @@ pub fn fill(text: &[u8], image: &mut [u8]) -> Result<Survey, HexFault>
     ensures lined { Lined text.now }
 {
     if text.len() > MAX_TEXT || image.len() > MAX_IMAGE {
+        // No line and no byte is at fault: 0 stands for each, as this refusal is promised.
         return Err(HexFault {
             reason: Reason::TooLong,
             line: 0,
@@ -85,11 +86,9 @@ pub fn fill(text: &[u8], image: &mut [u8]) -> Result<Survey, HexFault>
         });
     }
     image.fill(BLANK);
-    match place_all(text, image) {
-        Ok(survey) => Ok(survey),
-        Err(fault) => {
-            image.fill(BLANK);
-            Err(fault)
-        }
+    let answer = place_all(text, image);
+    if answer.is_err() {
+        image.fill(BLANK);
     }
+    answer
 }

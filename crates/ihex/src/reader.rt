@@ -9,7 +9,7 @@ use hextext::split_line;
 
 // Gives the records of a text one by one. `line` counts the lines that are read, and `position` is where the next one
 // starts, or the text's length.
-#[derive(Drop)]
+#[derive(Debug, Drop)]
 pub struct Reader<'a> {
     pub(crate) text: &'a [u8],
     pub(crate) line: usize,

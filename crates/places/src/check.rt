@@ -17,7 +17,7 @@ pub enum TableFault {
 const NO_SIZE: u8 = 11;
 
 impl TableFault {
-    // the number by which docs/CHIP.md tells the refusal
+    // the number by which docs/CHIP.md tells the refusal: each refusal has one, and keeps it
     pub fn number(self) -> u8
         ensures { result ≡ number self }
     {

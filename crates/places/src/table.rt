@@ -50,7 +50,7 @@ fn change_all<F: Fn(&mut Place)>(table: &mut [Place], change: F)
     }
 }
 
-// Told of the places and not of their cells: a chain over the places says no more to a proof.
+// Told of the places and not of their cells, and apart from `zeroed`: in the method itself the chain leaves its goal open.
 fn all_zeroed(table: &[Place]) -> bool
     ensures { result ≡ list_all (λ (p : Place). p.program == 0) table.now }
 {

@@ -36,11 +36,8 @@ fn run(rt: &HostRuntime) -> anyhow::Result<ExitCode> {
 }
 
 fn main(rt: HostRuntime) -> io::Result<ExitCode> {
-    match run(&rt) {
-        Ok(status) => Ok(status),
-        Err(error) => {
-            eprintln!(rt; "proofread: {error}")?;
-            Ok(ExitCode::FAILURE)
-        }
-    }
+    run(&rt).or_else(|error| {
+        eprintln!(rt; "proofread: {error}")?;
+        Ok(ExitCode::FAILURE)
+    })
 }

@@ -10,10 +10,10 @@ use std::fmt;
 
 // A place, in four digits.
 #[derive(Clone, Copy)]
-struct Place(u16);
+struct Address(u16);
 
-impl fmt::Display for Place {
-    ghost output = { λ place. Some (four_digits place.0) };
+impl fmt::Display for Address {
+    ghost output = { λ address. Some (four_digits address.0) };
 
     #[tactic(auto, using(crate::proofs::Hex::placed))]
     fn fmt<W: fmt::Write>(&self, f: &mut fmt::Formatter<W>) -> fmt::Result {
@@ -23,7 +23,7 @@ impl fmt::Display for Place {
 }
 
 // A record of the reading of a text, a fact to a line, each a label and a value.
-#[derive(Clone, Copy, Debug)]
+#[derive(Clone, Copy, Debug, PartialEq)]
 pub struct Findings(pub Result<Survey, HexFault>);
 
 impl fmt::Display for Findings {
@@ -39,8 +39,8 @@ impl fmt::Display for Findings {
                 } = survey;
                 match span {
                     Some(Span { lowest, highest }) => {
-                        let lowest = Place(lowest);
-                        let highest = Place(highest);
+                        let lowest = Address(lowest);
+                        let highest = Address(highest);
                         write!(
                             f,
                             "verdict: accepted\nrecords: {records}\nbytes: {bytes}\nlowest: {lowest}\nhighest: {highest}\n"

@@ -12,7 +12,7 @@ use socket::{CommandRegister, FLOATING, NO_CODE, SOCKET_SIZE};
 
 // A chip with the places of a table. A table whose length is no size of a chip makes an empty socket.
 // Clauses name what it holds by `state`: a view would need the bound on `T` here, and ask it of every user of the type.
-#[derive(Drop)]
+#[derive(Debug, Drop)]
 pub struct TableChip<T> {
     pub table: T,
     pub signature: Signature,

@@ -288,7 +288,7 @@ mod tests {
         assert_eq!(rt; read(&mut chip, 12), 0x5A);
     }
 
-    // The number of the refusal that a table of so many records meets.
+    // Checks a table. A refusal is told by its number.
     fn check(table: &[Place]) -> Result<(), u8> {
         check_table(table).map_err(TableFault::number)
     }

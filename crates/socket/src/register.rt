@@ -91,11 +91,7 @@ impl CommandRegister {
     pub fn new() -> CommandRegister
         ensures { kept result ≡ fresh }
     {
-        CommandRegister {
-            marks: Marks::default(),
-            voltage: Voltage::Low,
-            mode: Mode::Read,
-        }
+        CommandRegister::default()
     }
 
     // The pulse that may be open ends.
@@ -103,20 +99,10 @@ impl CommandRegister {
         ensures { kept result ≡ pulse_ended size zeroed (kept self) }
     {
         let marks = match self.mode {
-            Mode::Programming { place, time, .. } => {
-                if time < PROGRAM_PULSE {
-                    after_short(self.marks)
-                } else {
-                    after_program(self.marks, size, place)
-                }
-            }
-            Mode::Erasing { time } => {
-                if time < ERASE_PULSE {
-                    after_short(self.marks)
-                } else {
-                    after_erase(self.marks, zeroed)
-                }
-            }
+            Mode::Programming { time, .. } if time < PROGRAM_PULSE => after_short(self.marks),
+            Mode::Programming { place, .. } => after_program(self.marks, size, place),
+            Mode::Erasing { time } if time < ERASE_PULSE => after_short(self.marks),
+            Mode::Erasing { .. } => after_erase(self.marks, zeroed),
             _ => self.marks,
         };
         CommandRegister { marks, ..self }
@@ -163,14 +149,12 @@ impl CommandRegister {
     }
 
     // The voltage is set, after the pulse that was open.
-    pub fn powered(self, voltage: Voltage) -> CommandRegister
+    pub fn powered(mut self, voltage: Voltage) -> CommandRegister
         ensures { kept result ≡ powered voltage (kept self) }
     {
-        CommandRegister {
-            marks: self.marks,
-            voltage,
-            mode: Mode::Read,
-        }
+        self.voltage = voltage;
+        self.mode = Mode::Read;
+        self
     }
 
     // Time passes, whatever the size and the cells are.

@@ -25,9 +25,7 @@ impl EmptySocket {
     pub fn new() -> EmptySocket
         ensures { kept result.register ≡ fresh }
     {
-        EmptySocket {
-            register: CommandRegister::new(),
-        }
+        EmptySocket::default()
     }
 }
 
