@@ -17,18 +17,12 @@ impl<'a> Pairs<'a> {
     pub(crate) fn summed(digits: &'a [u8]) -> Option<(Pairs<'a>, u8)>
         ensures { MatchOption result (Paired digits.now → ⊥) (λ p. (p.0.digits ≡ digits.entry) × (p.1 ≡ sum (bytes_of p.0.digits.now) % 256)) }
     {
-        // Not over chunks of two digits: what is left in the end tells whether all were pairs.
         let mut sum: u8 = 0;
-        let mut rest = digits;
-        'pairs: while let Some((byte, after)) = take_byte(rest) {
+        'pairs: for pair in digits.chunks(2) {
+            let (byte, _) = take_byte(pair)?;
             sum = sum.wrapping_add(byte);
-            rest = after;
         }
-        if rest.is_empty() {
-            Some((Pairs { digits }, sum))
-        } else {
-            None
-        }
+        Some((Pairs { digits }, sum))
     }
 
     // How many bytes they write.
