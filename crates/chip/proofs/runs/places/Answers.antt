@@ -1,3 +1,4 @@
+-- What stands here the check does not find: taken away, it leaves its goal open.
 use Rattle.chip.proofs.Kept.{keeps}
 use Rattle.chip.proofs.runs.places.Goals as goal
 

@@ -1,3 +1,4 @@
+-- What stands here the check does not find: taken away, it leaves its goal open.
 use Rattle.hextext.proofs.Splits.{at_first_feed, splits, only}
 use Rattle.hextext.proofs.lines.line_feed.Goals as goal
 

@@ -1,3 +1,4 @@
+-- What stands here the check does not find: taken away, it leaves its goal open.
 use Rattle.std.proofs.Common.{◌≡◌, ◌+◌, ap, ◌∙◌, inl, arith}
 use Rattle.std.specs.List.{prefix_len}
 use Rattle.hextext.specs.Digits.{is_digit}

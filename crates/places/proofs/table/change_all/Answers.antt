@@ -1,3 +1,4 @@
+-- What stands here the check does not find: taken away, it leaves its goal open.
 use Rattle.places.proofs.Tables.{front_next}
 use Rattle.places.proofs.table.change_all.Goals as goal
 

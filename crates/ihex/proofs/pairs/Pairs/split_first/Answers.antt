@@ -1,3 +1,4 @@
+-- What stands here the check does not find: taken away, it leaves its goal open.
 use Rattle.ihex.proofs.Heads.{paired_after}
 use Rattle.ihex.proofs.pairs.Pairs.split_first.Goals as goal
 

@@ -1,3 +1,4 @@
+-- What stands here the check does not find: taken away, it leaves its goal open.
 use Rattle.std.proofs.Common.{◌≡◌, ◌-◌, length, sum, sym, ap, ◌∙◌, subst, arith, length-drop}
 use Rattle.std.proofs.lemmas.List.Sums.{sum_by-cons}
 use Rattle.hextext.specs.Digits.{bytes_of}

@@ -1,3 +1,4 @@
+-- What stands here the check does not find: taken away, it leaves its goal open.
 use Rattle.std.proofs.Common.{◌≡◌, length, Ok, Err, ap, ◌∙◌, arith, false-eqb}
 use Rattle.std.proofs.lemmas.Result.{err_from_is_err_and}
 use Rattle.hextext.specs.Lines.{line_of, after_line, from_line, line}
