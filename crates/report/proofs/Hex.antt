@@ -1,15 +1,15 @@
 -- A place, formatted as four digits of upper case.
-use Rattle.std.proofs.Common.{◌≡◌, ℕ, suc, ◌/◌, ◌%◌, ◌<◌, ◌≤◌, true, false, List, [], ◌∷◌, refl, ap, ◌∙◌, ⊎_elim, arith}
+use Rattle.std.proofs.Common.{◌≡◌, ℕ, zero, suc, ◌+◌, ◌-◌, ◌/◌, ◌%◌, ◌^◌, ◌<◌, ◌≤◌, true, false, List, [], ◌∷◌, ◌++◌, length, replicate, sym, refl, ap, ◌∙◌, ap₂, subst, ⊎_elim, arith}
 use Rattle.std.specs.Fmt.{char_count, digits_onto, digits, padded_integral, format_spec}
+use Rattle.std.proofs.Math.Nat.{pow-suc}
+use Rattle.std.proofs.lemmas.List.{append-nil}
 use Rattle.std.proofs.lemmas.Bool.{cond-true, cond-false, eq-eqb, ne_eqb, cases_lt}
 use Rattle.report.specs.Words.{hex_digit, four_digits}
 
--- four digits for four values
-four : ℕ → ℕ → ℕ → ℕ → List ℕ
-four a b c d = hex_digit a ∷ (hex_digit b ∷ (hex_digit c ∷ (hex_digit d ∷ [])))
-
-same : (a b c d e f g h : ℕ) → a ≡ e → b ≡ f → c ≡ g → d ≡ h → four a b c d ≡ four e f g h
-same a b c d e f g h p q r s = cc
+-- the last k digits of n, leading zeros among them, followed by acc
+fixed : ℕ → ℕ → List ℕ → List ℕ
+fixed zero n acc = acc
+fixed (suc k) n acc = fixed k (n / 16) (hex_digit (n % 16) ∷ acc)
 
 last : (k n : ℕ) (acc : List ℕ) → n < 16 → digits_onto (suc k) 16 true n acc ≡ hex_digit (n % 16) ∷ acc
 last k n acc h = cond-true _ _ _ (eq-eqb (n / 16) 0 (omega arith))
@@ -17,50 +17,53 @@ last k n acc h = cond-true _ _ _ (eq-eqb (n / 16) 0 (omega arith))
 next : (k n : ℕ) (acc : List ℕ) → 16 ≤ n → digits_onto (suc k) 16 true n acc ≡ digits_onto k 16 true (n / 16) (hex_digit (n % 16) ∷ acc)
 next k n acc h = cond-false _ _ _ (ne_eqb (n / 16) 0 (λ e. omega arith))
 
-module _ (n : ℕ) where
-  one : n < 16 → digits 16 true n ≡ hex_digit (n % 16) ∷ []
-  unfolding digits
-  one h = last 63 n [] h
+zeros_front : (k : ℕ) (acc : List ℕ) → replicate k 48 ++ (48 ∷ acc) ≡ 48 ∷ (replicate k 48 ++ acc)
+zeros_front zero acc = refl
+zeros_front (suc k) acc = ap (λ l. 48 ∷ l) (zeros_front k acc)
 
-  two : 16 ≤ n → n < 256 → digits 16 true n ≡ hex_digit (n / 16 % 16) ∷ (hex_digit (n % 16) ∷ [])
-  unfolding digits
-  two l h = next 63 n [] l ∙ last 62 (n / 16) _ (omega arith)
+zeros : (k : ℕ) (acc : List ℕ) → fixed k 0 acc ≡ replicate k 48 ++ acc
+unfolding fixed
+zeros zero acc = refl
+zeros (suc k) acc = zeros k (48 ∷ acc) ∙ zeros_front k acc
 
-  three : 256 ≤ n → n < 4096 → digits 16 true n ≡ hex_digit (n / 16 / 16 % 16) ∷ (hex_digit (n / 16 % 16) ∷ (hex_digit (n % 16) ∷ []))
-  unfolding digits
-  three l h = next 63 n [] (omega arith) ∙ next 62 (n / 16) _ (omega arith) ∙ last 61 (n / 16 / 16) _ (omega arith)
+-- ds, with zeros before it up to a width, is xs
+Filled : ℕ → List ℕ → List ℕ → Type 0
+Filled width ds xs = replicate (width - length ds) 48 ++ ds ≡ xs
 
-  all : 4096 ≤ n → n < 65536 → digits 16 true n ≡ four (n / 16 / 16 / 16 % 16) (n / 16 / 16 % 16) (n / 16 % 16) (n % 16)
-  unfolding digits four
-  all l h = next 63 n [] (omega arith) ∙ next 62 (n / 16) _ (omega arith) ∙ next 61 (n / 16 / 16) _ (omega arith) ∙ last 60 (n / 16 / 16 / 16) _ (omega arith)
+one : (k m n : ℕ) (acc : List ℕ) → n < 16 → Filled (suc k + length acc) (digits_onto (suc m) 16 true n acc) (fixed (suc k) n acc)
+unfolding Filled fixed
+one k m n acc less =
+    let ds = hex_digit (n % 16) ∷ acc in
+    let rest : suc k + length acc - suc (length acc) ≡ k = omega arith in
+    let none : 0 ≡ n / 16 = omega arith in
+    subst (λ xs. Filled (suc k + length acc) xs (fixed (suc k) n acc)) (sym (last m n acc less)) (ap (λ j. replicate j 48 ++ ds) rest ∙ sym (zeros k ds) ∙ ap (λ i. fixed k i ds) none)
 
-filled : List ℕ → List ℕ
-filled ds = padded_integral (format_spec 32 0 4 4 18446744073709551615) false [] ds
+-- digits that are filled up are those of the width
+filled_up : (k m n : ℕ) (acc : List ℕ) → k ≤ m → n < 16 ^ suc k → Filled (suc k + length acc) (digits_onto (suc m) 16 true n acc) (fixed (suc k) n acc)
+unfolding fixed
+filled_up zero m n acc le h = one zero m n acc (omega arith)
+filled_up (suc k) zero n acc le h = absurd (omega arith)
+filled_up (suc k) (suc m) n acc le h =
+    ⊎_elim (one (suc k) (suc m) n acc)
+    (λ more.
+    let ds = hex_digit (n % 16) ∷ acc in
+    let width : suc k + length ds ≡ suc (suc k) + length acc = omega arith in
+    let less : n / 16 < 16 ^ suc k = omega (arith, pow-suc 16 (suc k)) in
+    subst (λ xs. Filled (suc (suc k) + length acc) xs (fixed (suc k) (n / 16) ds)) (sym (next (suc m) n acc more))
+    (subst (λ w. Filled w (digits_onto (suc m) 16 true (n / 16) ds) (fixed (suc k) (n / 16) ds)) width (filled_up k m (n / 16) ds (omega arith) less)))
+    (cases_lt n 16)
 
-filled_1 : (a : ℕ) → filled (a ∷ []) ≡ 48 ∷ (48 ∷ (48 ∷ (a ∷ [])))
-unfolding filled padded_integral char_count
-filled_1 a = refl
+-- four digits for four values
+four : ℕ → ℕ → ℕ → ℕ → List ℕ
+four a b c d = hex_digit a ∷ (hex_digit b ∷ (hex_digit c ∷ (hex_digit d ∷ [])))
 
-filled_2 : (a b : ℕ) → filled (a ∷ (b ∷ [])) ≡ 48 ∷ (48 ∷ (a ∷ (b ∷ [])))
-unfolding filled padded_integral char_count
-filled_2 a b = refl
-
-filled_3 : (a b c : ℕ) → filled (a ∷ (b ∷ (c ∷ []))) ≡ 48 ∷ (a ∷ (b ∷ (c ∷ [])))
-unfolding filled padded_integral char_count
-filled_3 a b c = refl
-
-filled_4 : (a b c d : ℕ) → filled (a ∷ (b ∷ (c ∷ (d ∷ [])))) ≡ a ∷ (b ∷ (c ∷ (d ∷ [])))
-unfolding filled padded_integral char_count
-filled_4 a b c d = refl
+same : (a b c d e f g : ℕ) → a ≡ e → b ≡ f → c ≡ g → four a b c d ≡ four e f g d
+same a b c d e f g p q r = cc
 
 -- what `{:04X}` writes for a place
 pub placed : (n : ℕ) → n < 65536 → padded_integral (format_spec 32 0 4 4 18446744073709551615) false [] (digits 16 true n) ≡ four_digits n
-unfolding four filled
+unfolding Filled fixed four digits padded_integral char_count
 placed n h =
-    ⊎_elim (λ l. ap filled (one n l) ∙ filled_1 _ ∙ same 0 0 0 (n % 16) _ _ _ _ (omega arith) (omega arith) (omega arith) refl)
-    (λ l. ⊎_elim (λ m. ap filled (two n l m) ∙ filled_2 _ _ ∙ same 0 0 (n / 16 % 16) (n % 16) _ _ _ _ (omega arith) (omega arith) refl refl)
-    (λ m. ⊎_elim (λ o. ap filled (three n m o) ∙ filled_3 _ _ _ ∙ same 0 (n / 16 / 16 % 16) (n / 16 % 16) (n % 16) _ _ _ _ (omega arith) (omega arith) refl refl)
-    (λ o. ap filled (all n o h) ∙ filled_4 _ _ _ _ ∙ same (n / 16 / 16 / 16 % 16) (n / 16 / 16 % 16) (n / 16 % 16) (n % 16) _ _ _ _ (omega arith) (omega arith) refl refl)
-    (cases_lt n 4096))
-    (cases_lt n 256))
-    (cases_lt n 16)
+    let ds = digits_onto 64 16 true n [] in
+    let width : 4 - length ds - 0 - 0 ≡ 4 - length ds = omega arith in
+    ap₂ (λ j xs. replicate j 48 ++ xs) width (append-nil ds) ∙ filled_up 3 63 n [] (omega arith) h ∙ same _ _ _ (n % 16) (n / 4096) (n / 256 % 16) (n / 16 % 16) (omega arith) (omega arith) refl
