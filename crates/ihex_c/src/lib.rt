@@ -4,15 +4,10 @@
 
 ghost use Rattle.ihex.specs.Files.{FilledByNumber};
 
-use ihex::fill;
-
 // Reads a text into an image, as `ihex::fill` does, and answers 0, or the refusal's number.
 #[unsafe(no_mangle)]
 pub extern "C" fn ihex_fill(text: &[u8], image: &mut [u8]) -> u8
     ensures { FilledByNumber text.now image.old result image.new }
 {
-    match fill(text, image) {
-        Ok(_) => 0,
-        Err(fault) => fault.reason.number(),
-    }
+    ihex::ihex_fill(text, image)
 }
