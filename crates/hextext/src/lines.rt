@@ -1,15 +1,16 @@
 ghost use Rattle.std.specs.Prelude.{◌≡◌, ◌<◌, length, MatchOption};
 ghost use Rattle.hextext.specs.Lines.{before_feed, chomped, line_of, after_line, Split, OnlySplit};
 
-use memchr::memchr;
+use memchr::memchr_iter;
 
-// Where the first LF stands, if there is one.
+// Where the first LF stands, if there is one. By the search for each LF: lines are short, and it looks near by first, where
+// `memchr` is made for what lies far off.
 fn line_feed(text: &[u8]) -> Option<usize>
     ensures found { MatchOption result (before_feed text.now ≡ length text.now) (λ i. (i < length text.now) × (i ≡ before_feed text.now)) }
     ensures split { Split text.now (line_of text.now) (after_line text.now) }
     ensures only { OnlySplit text.now (line_of text.now) (after_line text.now) }
 {
-    memchr(b'\n', text)
+    memchr_iter(b'\n', text).next()
 }
 
 // The line without a CR at its end.

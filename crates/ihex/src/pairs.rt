@@ -17,8 +17,12 @@ impl<'a> Pairs<'a> {
     pub(crate) fn summed(digits: &'a [u8]) -> Option<(Pairs<'a>, u8)>
         ensures { MatchOption result (Paired digits.now → ⊥) (λ p. (p.0.digits ≡ digits.entry) × (p.1 ≡ sum (bytes_of p.0.digits.now) % 256)) }
     {
+        if digits.len() % 2 != 0 {
+            return None;
+        }
         let mut sum: u8 = 0;
-        'pairs: for pair in digits.chunks(2) {
+        // Exact chunks: the length of one of `chunks` is known only when it comes, and the next waits for it.
+        'pairs: for pair in digits.chunks_exact(2) {
             let (byte, _) = take_byte(pair)?;
             sum = sum.wrapping_add(byte);
         }
