@@ -2,37 +2,21 @@
 use Rattle.std.proofs.Common.{◌≡◌, ℕ, ◌+◌, ◌-◌, ◌<◌, ◌≤◌, true, false, not, ◌&&◌, eqb, ltb, List, [], ◌∷◌, ◌++◌, length, get_or, take, drop, sym, refl, ap, ◌∙◌, subst, inl, inr, ⊎_elim, arith}
 use Rattle.std.specs.Prelude.{Some, None, Option, MatchOption}
 use Rattle.std.specs.List.{All}
-use Rattle.memchr.specs.Find.{TakesFirst, is_byte, places, places_between}
-use Rattle.memchr.proofs.lemmas.PlaceLemmas.{places_between-first, places_between-none}
-use Rattle.std.proofs.lemmas.List.Sums.{prefix_len_is, prefix_len_passes, prefix_len_stops, prefix_len-le-length}
+use Rattle.memchr.specs.Find.{IsFirstByte, is_byte}
+use Rattle.std.proofs.lemmas.List.Sums.{prefix_len_is, prefix_len_passes, prefix_len_stops}
 use Rattle.std.proofs.lemmas.List.Folds.{length-prefix_len, prefix_len-append}
 use Rattle.std.proofs.lemmas.List.{append_assoc, take-append-drop, drop_more, take_more, take_all, take_rest, get_or-take, drop_all, get_or_past, take_at, drop_at, length-append, length_push, get_or_push}
 use Rattle.std.proofs.lemmas.List.Elements.{All-take, All-push, All-get_or, All-from_get_or}
-use Rattle.std.proofs.lemmas.Bool.{cond_both, cond-true, cond-false, and_right, ne_eqb, le-ltb, not_from_false, and_parts, and_from, ltb-true, ltb-false, lt-ltb, eqb-true, eq-eqb, not-true, not-false, both_ways, cases_Bool, cases_lt}
+use Rattle.std.proofs.lemmas.Bool.{cond_both, cond-true, cond-false, and_right, ne_eqb, le-ltb, not_from_false, not_from_true, false_from_ne_true, and_parts, and_from, ltb-true, ltb-false, lt-ltb, eqb-true, eq-eqb, not-true, both_ways, cases_Bool, cases_lt}
 use Rattle.hextext.specs.Lines.{before_feed, chomped, line_of, after_line, Split}
 
--- the places of LF begin with the first, and without one there are none
-fed : (xs : List ℕ) → before_feed xs < length xs → places (is_byte 10) xs ≡ before_feed xs ∷ places_between (is_byte 10) xs (before_feed xs + 1) (length xs)
-fed xs more =
-    places_between-first (is_byte 10) xs 0 (length xs) (before_feed xs)
-    (record { low = omega arith; high = more; before = λ k _ h p. both_ways _ (not-true _ (prefix_len_passes (λ b. not (eqb b 10)) xs k 0 h)) p })
-    (not-false _ (prefix_len_stops (λ b. not (eqb b 10)) xs 0 more))
-
-unfed_all : (xs : List ℕ) → length xs ≤ before_feed xs → places (is_byte 10) xs ≡ []
-unfed_all xs all =
-    places_between-none (is_byte 10) xs 0 (length xs) (omega arith)
-    (λ k _ h p. both_ways _ (not-true _ (prefix_len_passes (λ b. not (eqb b 10)) xs k 0 (omega arith))) p)
-
--- what a search for each LF gives first is where the first one stands
-pub at_first_feed : (xs : List ℕ) (r : Option ℕ) (left : List ℕ) → TakesFirst (places (is_byte 10) xs) r left → MatchOption r (before_feed xs ≡ length xs) (λ i. (i < length xs) × (i ≡ before_feed xs))
-at_first_feed xs None left none =
-    let most = prefix_len-le-length (λ b. not (eqb b 10)) xs in
-    ⊎_elim (λ more. absurd (let e = ap length (sym none.0 ∙ fed xs more) in omega (arith, e))) (λ all. omega arith) (cases_lt (before_feed xs) (length xs))
-at_first_feed xs (Some k) left first =
-    ⊎_elim
-    (λ more. let e : k ≡ before_feed xs = ap (λ l. get_or l 0 0) (sym first ∙ fed xs more) in (omega (arith, e), e))
-    (λ all. absurd (let e = ap length (sym first ∙ unfed_all xs all) in omega (arith, e)))
-    (cases_lt (before_feed xs) (length xs))
+-- the byte that a test looks for stands first where the search for it ends
+pub at_first_feed : (xs : List ℕ) (r : Option ℕ) → IsFirstByte (is_byte 10) xs r → MatchOption r (before_feed xs ≡ length xs) (λ i. (i < length xs) × (i ≡ before_feed xs))
+at_first_feed xs None none = prefix_len_is (λ b. not (eqb b 10)) xs (length xs) 0 (omega arith) (λ k h. not_from_false _ (false_from_ne_true _ (none k (omega arith) h))) (λ h. absurd (omega arith))
+at_first_feed xs (Some k) f = (
+  f.0.high,
+  sym (prefix_len_is (λ b. not (eqb b 10)) xs k 0 (omega arith) (λ j h. not_from_false _ (false_from_ne_true _ (f.0.before j (omega arith) h))) (λ _. not_from_true _ f.1)),
+)
 
 not_feed : (b : ℕ) → not (eqb b 10) ≡ true → b ≡ 10 → ⊥
 not_feed b e is = both_ways (eqb b 10) (not-true _ e) (eq-eqb b 10 is)

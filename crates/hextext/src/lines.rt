@@ -1,16 +1,33 @@
 ghost use Rattle.std.specs.Prelude.{◌≡◌, ◌<◌, length, MatchOption};
 ghost use Rattle.hextext.specs.Lines.{before_feed, chomped, line_of, after_line, Split, OnlySplit};
 
-use memchr::memchr_iter;
+use memchr::memchr;
+use std::simd::prelude::*;
 
-// Where the first LF stands, if there is one. By the search for each LF: lines are short, and it looks near by first, where
-// `memchr` is made for what lies far off.
+// How many bytes of a text are looked at together, and how many at most before `memchr` is called.
+const LANES: usize = 16;
+
+const NEAR: usize = 64;
+
+// Where the first LF stands, if there is one. `memchr` is made for what lies far off, and lines are short.
 fn line_feed(text: &[u8]) -> Option<usize>
     ensures found { MatchOption result (before_feed text.now ≡ length text.now) (λ i. (i < length text.now) × (i ≡ before_feed text.now)) }
     ensures split { Split text.now (line_of text.now) (after_line text.now) }
     ensures only { OnlySplit text.now (line_of text.now) (after_line text.now) }
 {
-    memchr_iter(b'\n', text).next()
+    let mut at = 0;
+    'chunks: while at < NEAR && text.len() - at >= LANES {
+        let lanes = u8x16::from_slice(&text[at..]);
+        let feeds = lanes.simd_eq(u8x16::splat(b'\n')).to_bitmask();
+        if feeds != 0 {
+            return Some(at + feeds.trailing_zeros() as usize);
+        }
+        at += LANES;
+    }
+    match memchr(b'\n', &text[at..]) {
+        Some(far) => Some(at + far),
+        None => None,
+    }
 }
 
 // The line without a CR at its end.
