@@ -7,7 +7,7 @@ use std::simd::prelude::*;
 // How many bytes of a text are looked at together, and how many at most before `memchr` is called.
 const LANES: usize = 16;
 
-const NEAR: usize = 128;
+const NEAR: usize = 64;
 
 // Where the first LF stands, if there is one. `memchr` is made for what lies far off, and lines are short.
 fn line_feed(text: &[u8]) -> Option<usize>
